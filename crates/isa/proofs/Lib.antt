@@ -1,0 +1,12 @@
+-- Laws that belong to no one function, and the proofs of what specs/ claims.
+pub mod Both
+pub mod Lookup
+pub mod Tables
+pub mod Names
+pub mod Room
+pub mod Parts
+pub mod Answers
+pub mod Signed
+pub mod Formats
+pub mod RoundTrip
+pub mod Figures

@@ -1,0 +1,21 @@
+-- `m_name` meets its contract: by the class, and within it by the operation.
+use borrow.Author.Needs.{needs}
+use Rattle.isa.proofs.name.m_name.Statement.{statement}
+use Rattle.isa.proofs.name.m_name.Tie as tie
+use Rattle.isa.specs.Text.{bytes}
+
+pub m-name-spec : {M : Type 1} → statement M
+unfolding bytes
+m-name-spec =
+    tie.close
+    (tie.spec
+    (λ c. search needs)
+    (λ c κs. search needs)
+    (λ c. search needs)
+    (λ c κs. search needs)
+    (λ c. search needs)
+    (λ c. search needs)
+    (λ c. rw (c .before .before .op .given .1) (c .load-name .ensures))
+    (λ c. rw (c .before .before .op2 .given .1) (c .store-name .ensures))
+    (λ c. rw (c .before .before .enum-told .given .1))
+    (λ c. rw (c .before .before .enum-told2 .given .1)))

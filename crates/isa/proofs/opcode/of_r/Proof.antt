@@ -1,0 +1,40 @@
+-- `of_r` meets its contract: by the arm that was taken.
+use Rattle.isa.proofs.Lookup.{absent}
+use Rattle.isa.proofs.opcode.of_r.Statement.{statement}
+use Rattle.isa.proofs.opcode.of_r.Tie as tie
+use Rattle.isa.specs.Table.{find, tableR, rowR}
+
+pub of-r-spec : {M : Type 1} → statement M
+unfolding find
+of-r-spec =
+    tie.close
+    (tie.spec
+    (λ c. rw (c .match .keys1))
+    (λ c. rw (c .match .keys2))
+    (λ c. rw (c .match .keys3))
+    (λ c. rw (c .match .keys4))
+    (λ c. rw (c .match .keys5))
+    (λ c. rw (c .match .keys6))
+    (λ c. rw (c .match .keys7))
+    (λ c. rw (c .match .keys8))
+    (λ c. rw (c .match .keys9))
+    (λ c. rw (c .match .keys10))
+    (λ c. rw (c .match .keys11))
+    (λ c. rw (c .match .keys12))
+    (λ c. rw (c .match .keys13))
+    (λ c. rw (c .match .keys14))
+    (λ c. rw (c .match .keys15))
+    (λ c. rw (c .match .keys16))
+    (λ c. rw (c .match .keys17))
+    (λ c. rw (c .match .keys18))
+    (λ c. rw (c .match .keys19))
+    (λ c. rw (c .match .keys20))
+    (λ c. rw (c .match .keys21))
+    (λ c. rw (c .match .keys22))
+    (λ c. rw (c .match .keys23))
+    (λ c. rw (c .match .keys24))
+    (λ c. rw (c .match .keys25))
+    (λ c. rw (c .match .keys26))
+    (λ c. rw (c .match .keys27))
+    (λ c. rw (c .match .keys28))
+    (λ c. absent rowR (c .before .args .opcode) Unit (tableR .operations) (c .match .rest)))

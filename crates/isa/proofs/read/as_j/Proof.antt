@@ -1,0 +1,17 @@
+-- `as_j` meets its contract: by the rule.
+use borrow.Author.Needs.{needs}
+use native.Mathlib.Nat.{div-one}
+use Rattle.isa.proofs.read.as_j.Statement.{statement}
+use Rattle.isa.proofs.read.as_j.Tie as tie
+use Rattle.isa.specs.Read.{asJ, accepted}
+
+pub as-j-spec : {M : Type 1} → statement M
+unfolding asJ accepted
+as-j-spec =
+    tie.close
+    (tie.spec
+    (λ c. search needs)
+    (λ c κs. search needs)
+    (λ c κs. search needs)
+    (λ c. rw (div-one, ← c .before .before .sign-extend .ensures, ← c .before .j-allows .ensures, c .if1 .taken))
+    (λ c. rw (div-one, ← c .before .before .sign-extend .ensures, ← c .before .j-allows .ensures, c .if1 .left)))

@@ -1,0 +1,16 @@
+-- `c_allows` meets its contract: by the arm that was taken.
+use borrow.Author.Needs.{needs}
+use Rattle.isa.proofs.rule.c_allows.Statement.{statement}
+use Rattle.isa.proofs.rule.c_allows.Tie as tie
+
+pub c-allows-spec : {M : Type 1} → statement M
+c-allows-spec =
+    tie.close
+    (tie.spec
+    (λ c. search needs)
+    (λ c. search needs)
+    (λ c κs. search needs)
+    (λ c. search needs)
+    (λ c. search needs)
+    (λ c. cc)
+    (λ c. cc))

@@ -1,0 +1,18 @@
+-- `m_allows` meets its contract: by the arm that was taken.
+use borrow.Author.Needs.{needs}
+use Rattle.isa.proofs.rule.m_allows.Statement.{statement}
+use Rattle.isa.proofs.rule.m_allows.Tie as tie
+
+pub m-allows-spec : {M : Type 1} → statement M
+m-allows-spec =
+    tie.close
+    (tie.spec
+    (λ c. search needs)
+    (λ c κs. search needs)
+    (λ c. search needs)
+    (λ c. search needs)
+    (λ c. search needs)
+    (λ c. cc)
+    (λ c. search needs)
+    (λ c. search needs)
+    (λ c. search needs))

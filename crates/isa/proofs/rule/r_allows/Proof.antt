@@ -1,0 +1,13 @@
+-- `r_allows` meets its contract: the three tests are those of the rule.
+use borrow.Author.Needs.{needs}
+use Rattle.isa.proofs.rule.r_allows.Statement.{statement}
+use Rattle.isa.proofs.rule.r_allows.Tie as tie
+
+pub r-allows-spec : {M : Type 1} → statement M
+r-allows-spec =
+    tie.close
+    (tie.spec
+    (λ c κs. search needs)
+    (λ c κs. search needs)
+    (λ c κs. search needs)
+    (λ c. rw (c .before .before .r-flags .ensures, c .before .is-destination .ensures, c .operand-b .ensures)))

@@ -1,0 +1,20 @@
+-- `r_flags` meets its contract: by the arm that was taken.
+use borrow.Author.Needs.{needs}
+use Rattle.isa.proofs.rule.r_flags.Statement.{statement}
+use Rattle.isa.proofs.rule.r_flags.Tie as tie
+
+pub r-flags-spec : {M : Type 1} → statement M
+r-flags-spec =
+    tie.close
+    (tie.spec
+    (λ c. search needs)
+    (λ c. search needs)
+    (λ c κs. search needs)
+    (λ c. search needs)
+    (λ c. search needs)
+    (λ c. search needs)
+    (λ c. cc)
+    (λ c. cc)
+    (λ c. cc)
+    (λ c. cc)
+    (λ c. cc))

@@ -1,0 +1,19 @@
+-- `unary_flags` meets its contract: by the arm that was taken.
+use borrow.Author.Needs.{needs}
+use Rattle.isa.proofs.rule.unary_flags.Statement.{statement}
+use Rattle.isa.proofs.rule.unary_flags.Tie as tie
+
+pub unary-flags-spec : {M : Type 1} → statement M
+unary-flags-spec =
+    tie.close
+    (tie.spec
+    (λ c. search needs)
+    (λ c. search needs)
+    (λ c. search needs)
+    (λ c. search needs)
+    (λ c. search needs)
+    (λ c. cc)
+    (λ c. cc)
+    (λ c. cc)
+    (λ c. cc)
+    (λ c. cc))

@@ -1,0 +1,74 @@
+-- The layouts of the instruction words: each format's parts, from bit 31 down to bit 0, as document 01 gives them.
+use Prim.Native.Nat.{ℕ, suc, _+_, _-_, _*_, _/_, _%_, _^_}
+use mathlib.Core.Bool.{Bool, cond}
+use mathlib.Core.List.{List, [], _∷_, map}
+use lib.Dec.{eqb, ltb}
+
+-- the bits of a word from `high` down to `low`, as a number
+abbrev pub bits : ℕ → ℕ → ℕ → ℕ
+bits w high low = w / 2 ^ low % 2 ^ (suc high - low)
+
+-- a part of a word: its highest and its lowest bit
+pub record Part : Type 0 where
+  pub high : ℕ
+  pub low : ℕ
+
+infix 80 _to_
+abbrev pub _to_ : ℕ → ℕ → Part
+high to low = record { high = high; low = low }
+
+abbrev pub width : Part → ℕ
+width p = suc (p .high) - p .low
+
+-- the word's parts
+abbrev pub split : List Part → ℕ → List ℕ
+split [] w = []
+split (p ∷ ps) w = bits w (p .high) (p .low) ∷ split ps w
+
+-- the word that has these numbers in its parts
+abbrev pub join : List Part → List ℕ → ℕ
+join [] vs = 0
+join (p ∷ ps) [] = 0
+join (p ∷ ps) (v ∷ vs) = v * 2 ^ (p .low) + join ps vs
+
+-- whether each number has room in its part
+abbrev pub room : List Part → List ℕ → List Bool
+room [] vs = []
+room (p ∷ ps) [] = []
+room (p ∷ ps) (v ∷ vs) = ltb v (2 ^ width p) ∷ room ps vs
+
+-- "R: bits 31-30 = 00, opcode 29-24, d 23-18, a 17-12, b 11-6, l bit 4, vector flags bit 3 (d), 2 (a), 1 (b)."
+abbrev pub layoutR : List Part
+layoutR = 31 to 30 ∷ 29 to 24 ∷ 23 to 18 ∷ 17 to 12 ∷ 11 to 6 ∷ 5 to 5 ∷ 4 to 4 ∷ 3 to 1 ∷ 0 to 0 ∷ []
+
+-- "I: bits 31-29 = 010, opcode 28-24, d 23-18, a 17-12, signed immediate 11-3, flags bit 2 (d), 1 (a)."
+abbrev pub layoutI : List Part
+layoutI = 31 to 29 ∷ 28 to 24 ∷ 23 to 18 ∷ 17 to 12 ∷ 11 to 3 ∷ 2 to 1 ∷ 0 to 0 ∷ []
+
+-- "MOVEI: bits 31-27 = 01100, opcode 26-24, d 23-18, immediate 17-2, vector flag bit 1."
+abbrev pub layoutMovei : List Part
+layoutMovei = 31 to 27 ∷ 26 to 24 ∷ 23 to 18 ∷ 17 to 2 ∷ 1 to 1 ∷ 0 to 0 ∷ []
+
+-- "J: bits 31-27 = 01110, opcode 26-24, register 23-18, signed byte offset 17-0"
+abbrev pub layoutJ : List Part
+layoutJ = 31 to 27 ∷ 26 to 24 ∷ 23 to 18 ∷ 17 to 0 ∷ []
+
+-- "C: bits 31-27 = 01111, opcode 26-24, first register 23-18, second 17-12."
+abbrev pub layoutC : List Part
+layoutC = 31 to 27 ∷ 26 to 24 ∷ 23 to 18 ∷ 17 to 12 ∷ 11 to 0 ∷ []
+
+-- "M: bits 31-30 = 10, opcode 29-24, register 23-18, scalar base 17-12, signed offset 11-3, bits 2 and 1."
+abbrev pub layoutM : List Part
+layoutM = 31 to 30 ∷ 29 to 24 ∷ 23 to 18 ∷ 17 to 12 ∷ 11 to 3 ∷ 2 to 1 ∷ 0 to 0 ∷ []
+
+-- A signed number is held modulo 2^32. A signed field whose sign bit weighs h, as the number that it stands for;
+unfoldable pub signed : ℕ → ℕ → ℕ
+signed h n = cond (ltb n h) n (n + (2 ^ 32 - 2 * h))
+
+-- the field of a number;
+abbrev pub cut : ℕ → ℕ → ℕ
+cut h n = n % (2 * h)
+
+-- and whether a number is one that such a field stands for.
+unfoldable pub fits-signed : ℕ → ℕ → Bool
+fits-signed h n = eqb (signed h (cut h n)) n

@@ -1,0 +1,14 @@
+-- Instruction words: what the contracts cite.
+pub mod Types
+pub mod Test
+pub mod Text
+pub mod Answer
+pub mod Table
+pub mod Found
+pub mod Layout
+pub mod Rule
+pub mod Read
+pub mod Write
+pub mod Name
+pub mod Claims
+pub mod Figures

@@ -1,0 +1,132 @@
+-- The tables of the instruction words (document 01, "The words"): for each format its operations, with their opcodes and names.
+use Prim.Native.Nat.{ℕ}
+use mathlib.Core.Bool.{Bool, true, false}
+use mathlib.Core.List.{List, [], _∷_, _++_}
+use mathlib.Core.Option.{Option, none, some}
+use Prim.Native.String.{String}
+use lib.Dec.{eqb}
+use Rattle.isa.specs.Text.{bytes}
+use Rattle.isa.specs.Types.{BinaryOp, Or, And, Xor, Add, Sub, Mullo, Mulhi, Mulhu, Ashr, Shr, Shl, UnaryOp, Clz, Ctz, Move, Sext8, Sext16, CompareOp, Eq, Ne, Gt, Ge, Lt, Le, Ugt, Uge, Ult, Ule, Operation, Binary, Unary, Compare, Shuffle, GetLane}
+use Rattle.isa.specs.Types.{MoveiOp, Low, High, Whole, JumpOp, Jmp, Jmpsr, Jret, Beqz, Bnez, ControlOp, Barrier, Readcr, End, LoadOp, Load8, Load16, Load32, Load8u, Load16u, StoreOp, Store8, Store16, Store32, MemoryOp, Load, Store, LoadVector, StoreVector}
+
+-- a row: the opcode of an operation, and its name
+pub record Row : Type 0 where
+  pub opcode : ℕ
+  pub name : List ℕ
+
+abbrev pub row : ℕ → String → Row
+row o n = record { opcode = o; name = bytes n }
+
+-- a format's table: the row of each operation, and all its operations
+pub record Table (A : Type 0) : Type 0 where
+  pub rowOf : A → Row
+  pub operations : List A
+
+-- "R"
+abbrev pub rowR : Operation → Row
+rowR (Binary Or) = row 1 "or"
+rowR (Binary And) = row 2 "and"
+rowR (Binary Xor) = row 3 "xor"
+rowR (Binary Add) = row 4 "add"
+rowR (Binary Sub) = row 5 "sub"
+rowR (Binary Mullo) = row 6 "mullo"
+rowR (Binary Mulhi) = row 7 "mulhi"
+rowR (Binary Mulhu) = row 8 "mulhu"
+rowR (Binary Ashr) = row 9 "ashr"
+rowR (Binary Shr) = row 10 "shr"
+rowR (Binary Shl) = row 11 "shl"
+rowR (Unary Clz) = row 12 "clz"
+rowR (Unary Ctz) = row 13 "ctz"
+rowR (Compare Eq) = row 14 "cmpeq"
+rowR (Compare Ne) = row 15 "cmpne"
+rowR (Compare Gt) = row 16 "cmpgt"
+rowR (Compare Ge) = row 17 "cmpge"
+rowR (Compare Lt) = row 18 "cmplt"
+rowR (Compare Le) = row 19 "cmple"
+rowR (Compare Ugt) = row 20 "cmpugt"
+rowR (Compare Uge) = row 21 "cmpuge"
+rowR (Compare Ult) = row 22 "cmpult"
+rowR (Compare Ule) = row 23 "cmpule"
+rowR Shuffle = row 24 "shuffle"
+rowR GetLane = row 25 "getlane"
+rowR (Unary Move) = row 32 "move"
+rowR (Unary Sext8) = row 43 "sext8"
+rowR (Unary Sext16) = row 44 "sext16"
+
+abbrev pub tableR : Table Operation
+tableR = record {
+  rowOf = rowR;
+  operations =
+      Binary Or ∷ Binary And ∷ Binary Xor ∷ Binary Add ∷ Binary Sub ∷ Binary Mullo ∷ Binary Mulhi ∷ Binary Mulhu ∷ Binary Ashr ∷ Binary Shr ∷ Binary Shl ∷
+      Unary Clz ∷ Unary Ctz ∷
+      Compare Eq ∷ Compare Ne ∷ Compare Gt ∷ Compare Ge ∷ Compare Lt ∷ Compare Le ∷ Compare Ugt ∷ Compare Uge ∷ Compare Ult ∷ Compare Ule ∷
+      Shuffle ∷ GetLane ∷ Unary Move ∷ Unary Sext8 ∷ Unary Sext16 ∷ [];
+}
+
+-- "Not fitted: opcodes 33-42, 45, 48, 49 with any other bits"
+abbrev pub not-fitted-opcodes : List ℕ
+not-fitted-opcodes = 33 ∷ 34 ∷ 35 ∷ 36 ∷ 37 ∷ 38 ∷ 39 ∷ 40 ∷ 41 ∷ 42 ∷ 45 ∷ 48 ∷ 49 ∷ []
+
+-- "I: .. Opcodes 1-11 .., 14-23 .., 25 .., as R with the immediate as b. Names end in i." Its opcodes are those of R; which of them have an I word, their
+-- flags say.
+abbrev pub rowI : Operation → Row
+rowI op = record { opcode = rowR op .opcode; name = rowR op .name ++ bytes "i" }
+
+-- "MOVEI: .. 0 moveil replaces the low half, 1 moveih the high half, 2 movei sets the value with the high half zero."
+abbrev pub rowMovei : MoveiOp → Row
+rowMovei Low = row 0 "moveil"
+rowMovei High = row 1 "moveih"
+rowMovei Whole = row 2 "movei"
+
+abbrev pub tableMovei : Table MoveiOp
+tableMovei = record { rowOf = rowMovei; operations = Low ∷ High ∷ Whole ∷ [] }
+
+-- "J: .. 0 jmp, 1 jmpsr .., 2 jret .., 5 beqz, 6 bnez."
+abbrev pub rowJ : JumpOp → Row
+rowJ Jmp = row 0 "jmp"
+rowJ Jmpsr = row 1 "jmpsr"
+rowJ Jret = row 2 "jret"
+rowJ Beqz = row 5 "beqz"
+rowJ Bnez = row 6 "bnez"
+
+abbrev pub tableJ : Table JumpOp
+tableJ = record { rowOf = rowJ; operations = Jmp ∷ Jmpsr ∷ Jret ∷ Beqz ∷ Bnez ∷ [] }
+
+-- "C: .. 0 barrier .. 1 readcr .. 2 end"
+abbrev pub rowC : ControlOp → Row
+rowC Barrier = row 0 "barrier"
+rowC Readcr = row 1 "readcr"
+rowC End = row 2 "end"
+
+abbrev pub tableC : Table ControlOp
+tableC = record { rowOf = rowC; operations = Barrier ∷ Readcr ∷ End ∷ [] }
+
+-- "M: .. 0 load8, 1 load16 (sign kept), 2 load32, 4 load8u, 5 load16u, 8 loadv, 32 store8, 33 store16, 34 store32, 40 storev."
+abbrev pub rowM : MemoryOp → Row
+rowM (Load Load8) = row 0 "load8"
+rowM (Load Load16) = row 1 "load16"
+rowM (Load Load32) = row 2 "load32"
+rowM (Load Load8u) = row 4 "load8u"
+rowM (Load Load16u) = row 5 "load16u"
+rowM LoadVector = row 8 "loadv"
+rowM (Store Store8) = row 32 "store8"
+rowM (Store Store16) = row 33 "store16"
+rowM (Store Store32) = row 34 "store32"
+rowM StoreVector = row 40 "storev"
+
+abbrev pub tableM : Table MemoryOp
+tableM = record {
+  rowOf = rowM;
+  operations =
+      Load Load8 ∷ Load Load16 ∷ Load Load32 ∷ Load Load8u ∷ Load Load16u ∷ LoadVector ∷
+      Store Store8 ∷ Store Store16 ∷ Store Store32 ∷ StoreVector ∷ [];
+}
+
+-- the operation of an opcode among those listed, if one of them has it
+unfoldable pub find : {A : Type 0} → (A → Row) → List A → ℕ → Option A
+find rowOf [] o = none
+find rowOf (op ∷ ops) o = elim (eqb o (rowOf op .opcode)) [ true ↦ some op | false ↦ find rowOf ops o ]
+
+-- the operation of an opcode in a table
+abbrev pub operationAt : {A : Type 0} → Table A → ℕ → Option A
+operationAt t o = find (t .rowOf) (t .operations) o

@@ -1,0 +1,27 @@
+// Instruction words of the house core: read into instructions, written from them, and named (document 01, "The words").
+mod field;
+mod instruction;
+mod name;
+mod opcode;
+mod pack;
+mod read;
+mod rule;
+mod write;
+
+pub use instruction::BinaryOp;
+pub use instruction::CompareOp;
+pub use instruction::ControlOp;
+pub use instruction::Instruction;
+pub use instruction::JumpOp;
+pub use instruction::LoadOp;
+pub use instruction::MemoryOp;
+pub use instruction::MoveiOp;
+pub use instruction::Operation;
+pub use instruction::Reading;
+pub use instruction::StoreOp;
+pub use instruction::UnaryOp;
+pub use instruction::Writing;
+pub use name::Name;
+pub use name::name_of;
+pub use read::read_word;
+pub use write::write_word;

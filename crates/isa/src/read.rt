@@ -1,0 +1,209 @@
+// Words read into instructions.
+use crate::field;
+use crate::instruction::ControlOp;
+use crate::instruction::Instruction;
+use crate::instruction::JumpOp;
+use crate::instruction::MemoryOp;
+use crate::instruction::MoveiOp;
+use crate::instruction::Operation;
+use crate::instruction::Reading;
+use crate::opcode;
+use crate::opcode::ControlOpcode;
+use crate::opcode::JumpOpcode;
+use crate::opcode::MemoryOpcode;
+use crate::opcode::MoveiOpcode;
+use crate::opcode::ROpcode;
+use crate::rule;
+ghost use mathlib.Core.Path.{_≡_};
+ghost use Rattle.isa.specs.Answer.{reading};
+ghost use Rattle.isa.specs.Read.{asR, asI, asMovei, asJ, asC, asM, readR, readI, readMovei, readJ, readC, readM, read};
+
+fn as_r(w: u32, op: Operation) -> Reading
+    ensures { λ r. ⌜ reading r ≡ asR w op ⌝ }
+{
+    let flags = (w / 2 % 8) as u8;
+    let d = (w / 0x40000 % 64) as u8;
+    let a = (w / 0x1000 % 64) as u8;
+    let b = (w / 0x40 % 64) as u8;
+    if w / 0x10 % 2 == 1 {
+        return Reading::NotFitted;
+    }
+    if (w / 0x20 % 2 == 0) & (w % 2 == 0) & rule::r_allows(op, flags, d, b) {
+        Reading::Defined(Instruction::R { op, flags, d, a, b })
+    } else {
+        Reading::Undefined
+    }
+}
+
+fn as_i(w: u32, op: Operation) -> Reading
+    ensures { λ r. ⌜ reading r ≡ asI w op ⌝ }
+{
+    let flags = (w / 2 % 4) as u8;
+    let d = (w / 0x40000 % 64) as u8;
+    let a = (w / 0x1000 % 64) as u8;
+    let immediate = field::sign_extend(0x100, w / 8 % 512);
+    if (w % 2 == 0) & rule::i_allows(op, flags, d) {
+        Reading::Defined(Instruction::I {
+            op,
+            flags,
+            d,
+            a,
+            immediate,
+        })
+    } else {
+        Reading::Undefined
+    }
+}
+
+fn as_movei(w: u32, op: MoveiOp) -> Reading
+    ensures { λ r. ⌜ reading r ≡ asMovei w op ⌝ }
+{
+    let flag = (w / 2 % 2) as u8;
+    let d = (w / 0x40000 % 64) as u8;
+    let immediate = w / 4 % 65536;
+    if (w % 2 == 0) & rule::movei_allows(flag, d) {
+        Reading::Defined(Instruction::Movei {
+            op,
+            flag,
+            d,
+            immediate,
+        })
+    } else {
+        Reading::Undefined
+    }
+}
+
+fn as_j(w: u32, op: JumpOp) -> Reading
+    ensures { λ r. ⌜ reading r ≡ asJ w op ⌝ }
+{
+    let register = (w / 0x40000 % 64) as u8;
+    let offset = field::sign_extend(0x20000, w % 0x40000);
+    if rule::j_allows(op, register, offset) {
+        Reading::Defined(Instruction::J {
+            op,
+            register,
+            offset,
+        })
+    } else {
+        Reading::Undefined
+    }
+}
+
+fn as_c(w: u32, op: ControlOp) -> Reading
+    ensures { λ r. ⌜ reading r ≡ asC w op ⌝ }
+{
+    let first = (w / 0x40000 % 64) as u8;
+    let second = (w / 0x1000 % 64) as u8;
+    if (w % 0x1000 == 0) & rule::c_allows(op, first, second) {
+        Reading::Defined(Instruction::C { op, first, second })
+    } else {
+        Reading::Undefined
+    }
+}
+
+fn as_m(w: u32, op: MemoryOp) -> Reading
+    ensures { λ r. ⌜ reading r ≡ asM w op ⌝ }
+{
+    let register = (w / 0x40000 % 64) as u8;
+    let base = (w / 0x1000 % 64) as u8;
+    let offset = field::sign_extend(0x100, w / 8 % 512);
+    if w / 2 % 4 != 0 {
+        return Reading::NotFitted;
+    }
+    if (w % 2 == 0) & rule::m_allows(op, register) {
+        Reading::Defined(Instruction::M {
+            op,
+            register,
+            base,
+            offset,
+        })
+    } else {
+        Reading::Undefined
+    }
+}
+
+fn read_r(w: u32) -> Reading
+    ensures { λ r. ⌜ reading r ≡ readR w ⌝ }
+{
+    let opcode = (w / 0x1000000 % 64) as u8;
+    match opcode::of_r(opcode) {
+        ROpcode::Listed(op) => as_r(w, op),
+        ROpcode::NotListed => {
+            if opcode::unfitted(opcode) {
+                Reading::NotFitted
+            } else {
+                Reading::Undefined
+            }
+        }
+    }
+}
+
+fn read_i(w: u32) -> Reading
+    ensures { λ r. ⌜ reading r ≡ readI w ⌝ }
+{
+    match opcode::of_r((w / 0x1000000 % 32) as u8) {
+        ROpcode::Listed(op) => as_i(w, op),
+        ROpcode::NotListed => Reading::Undefined,
+    }
+}
+
+fn read_movei(w: u32) -> Reading
+    ensures { λ r. ⌜ reading r ≡ readMovei w ⌝ }
+{
+    match opcode::of_movei((w / 0x1000000 % 8) as u8) {
+        MoveiOpcode::Listed(op) => as_movei(w, op),
+        MoveiOpcode::NotListed => Reading::Undefined,
+    }
+}
+
+fn read_j(w: u32) -> Reading
+    ensures { λ r. ⌜ reading r ≡ readJ w ⌝ }
+{
+    match opcode::of_j((w / 0x1000000 % 8) as u8) {
+        JumpOpcode::Listed(op) => as_j(w, op),
+        JumpOpcode::NotListed => Reading::Undefined,
+    }
+}
+
+fn read_c(w: u32) -> Reading
+    ensures { λ r. ⌜ reading r ≡ readC w ⌝ }
+{
+    match opcode::of_c((w / 0x1000000 % 8) as u8) {
+        ControlOpcode::Listed(op) => as_c(w, op),
+        ControlOpcode::NotListed => Reading::Undefined,
+    }
+}
+
+fn read_m(w: u32) -> Reading
+    ensures { λ r. ⌜ reading r ≡ readM w ⌝ }
+{
+    match opcode::of_m((w / 0x1000000 % 64) as u8) {
+        MemoryOpcode::Listed(op) => as_m(w, op),
+        MemoryOpcode::NotListed => Reading::Undefined,
+    }
+}
+
+// What a word is read as.
+pub fn read_word(w: u32) -> Reading
+    ensures { λ r. ⌜ reading r ≡ read w ⌝ }
+{
+    if w / 0x40000000 == 0b00 {
+        return read_r(w);
+    }
+    if w / 0x20000000 == 0b010 {
+        return read_i(w);
+    }
+    if w / 0x8000000 == 0b01100 {
+        return read_movei(w);
+    }
+    if w / 0x8000000 == 0b01110 {
+        return read_j(w);
+    }
+    if w / 0x8000000 == 0b01111 {
+        return read_c(w);
+    }
+    if w / 0x40000000 == 0b10 {
+        return read_m(w);
+    }
+    Reading::Undefined
+}
