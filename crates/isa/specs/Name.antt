@@ -1,8 +1,9 @@
 -- The names of instructions, from the rows of the tables (document 01, "The words").
-use Prim.Native.Nat.{ℕ, _+_, _-_}
-use mathlib.Core.List.{List, _++_}
-use lib.ListN.{length, replicate, set}
+use Prim.Native.Nat.{ℕ, _+_}
+use mathlib.Core.List.{List}
+use lib.ListN.{length, set}
 use Rattle.isa.specs.Table.{rowR, rowI, rowMovei, rowJ, rowC, rowM}
+use Rattle.isa.specs.Text.{padded}
 use Rattle.isa.specs.Types.{Instruction, R, I, Movei, J, C, M}
 use Rattle.isa.specs.declared.name.Name.{Name}
 
@@ -17,7 +18,7 @@ nameOf (M op register base offset) = rowM op .name
 
 -- a text of at most 8 bytes as the code's `Name`: zeros after it
 abbrev pub spelled : List ℕ → Name
-spelled t = record { bytes = t ++ replicate (8 - length t) 0; len = length t }
+spelled t = record { bytes = padded 8 t; len = length t }
 
 -- a name with a byte more
 abbrev pub extended : Name → ℕ → Name

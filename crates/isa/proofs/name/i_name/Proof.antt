@@ -1,7 +1,7 @@
 -- `i_name` meets its contract: the name of R with one letter more.
 use borrow.Author.Needs.{needs}
 use mathlib.Core.Path.{_∙_}
-use Rattle.isa.proofs.Names.{short, one-more}
+use Rattle.isa.proofs.Names.{short, name-one-more}
 use Rattle.isa.proofs.name.i_name.Statement.{statement}
 use Rattle.isa.proofs.name.i_name.Tie as tie
 use Rattle.isa.specs.Table.{rowR}
@@ -14,4 +14,4 @@ i-name-spec =
     (tie.spec
     (λ c κs. search needs)
     (λ c κs. rw (c .r-name .ensures) (short (c .before .args .op)))
-    (λ c. c .extend .ensures ∙ rw (c .before .r-name .ensures) (one-more (rowR (c .before .before .args .op) .name) 105 (short (c .before .before .args .op)))))
+    (λ c. c .extend .ensures ∙ rw (c .before .r-name .ensures) (name-one-more (rowR (c .before .before .args .op) .name) 105 (short (c .before .before .args .op)))))

@@ -1,0 +1,82 @@
+-- How long the parts of a listing can be.
+use Prim.Native.Nat.{ℕ, zero, suc, _+_, _-_, _*_, _/_, _%_, _≤_}
+use mathlib.Core.Bool.{Bool, true, false, cond}
+use mathlib.Core.List.{List, [], _∷_, _++_}
+use mathlib.Core.Path.{_≡_, refl, _∙_, ap}
+use native.Mathlib.Numerals.{add-one}
+use native.Mathlib.Omega.{arith}
+use lib.Dec.{eqb, ltb, lit≤}
+use lib.ListN.{length, take, replicate, length-append}
+use lib.Seq.{take-at}
+use Rattle.isa.proofs.Names.{fits}
+use Rattle.isa.specs.Answer.{Answer, given, refused, undefined}
+use Rattle.isa.specs.Name.{spelled}
+use Rattle.isa.specs.Read.{read}
+use Rattle.isa.specs.Text.{bytes, padded}
+use Rattle.isa.specs.declared.instruction.Instruction.{Instruction}
+use Rattle.isa.specs.declared.name.Name.{Name}
+use Rattle.listing.specs.Listing.{labelOf, label, columnsOf, line, lines, header, wordAt}
+use Rattle.listing.specs.Number.{digit, digits, places, decimal}
+
+pub length-digits : (base k n : ℕ) → length (digits base k n) ≡ k
+length-digits base zero n = refl
+length-digits base (suc k) n =
+    length-append (digits base k (n / base)) (digit (n % base) ∷ []) ∙ rw (length-digits base k (n / base)) (add-one k)
+
+pub places-small : (n : ℕ) → places n ≤ 5
+places-small n = go (ltb n 10) (ltb n 100) (ltb n 1000) (ltb n 10000)
+  where
+    go : (a b c d : Bool) → cond a 1 (cond b 2 (cond c 3 (cond d 4 5))) ≤ 5
+    go true b c d = lit≤ tt
+    go false true c d = lit≤ tt
+    go false false true d = lit≤ tt
+    go false false false true = lit≤ tt
+    go false false false false = lit≤ tt
+
+-- a text is taken out of its padding again, and has room there
+pub take-padded : (n : ℕ) (t : List ℕ) (k : ℕ) → length t ≡ k → take k (padded n t) ≡ t
+take-padded n t k e = take-at t (replicate (n - length t) 0) k e
+
+pub padded-room : (n : ℕ) (t : List ℕ) (k : ℕ) → length t ≡ k → k ≤ length (padded n t)
+padded-room n t k e = rw (length-append t (replicate (n - length t) 0)) (omega arith)
+
+label-small : (a : Answer Instruction) → length (labelOf a) ≤ 10
+unfolding bytes
+label-small (given i) = let h = fits i in omega arith
+label-small (refused n) = go (eqb n undefined)
+  where
+    go : (t : Bool) → length (cond t (bytes "undefined") (bytes "not-fitted")) ≤ 10
+    go true = lit≤ tt
+    go false = lit≤ tt
+
+pub length-line : (address w : ℕ) → length (line address w) ≤ 29
+unfolding line label columnsOf bytes
+length-line address w =
+    let h = label-small (read w) in
+    rw (length-append (columnsOf address w ++ labelOf (read w)) (10 ∷ []), length-append (columnsOf address w) (labelOf (read w))) (omega arith)
+
+pub length-lines : (input : List ℕ) (k : ℕ) → length (lines input k) ≤ 29 * k
+unfolding lines
+length-lines input zero = lit≤ tt
+length-lines input (suc k) =
+    let h = length-lines input k in
+    let g = length-line (4 * k) (wordAt input k) in
+    rw (length-append (lines input k) (line (4 * k) (wordAt input k))) (omega arith)
+
+pub length-header : (n : ℕ) → length (header n) ≤ 12
+unfolding header bytes
+length-header n =
+    let h = length-digits 10 (places n) n in
+    let g = places-small n in
+    rw (length-append (bytes "words " ++ decimal n) (10 ∷ []), length-append (bytes "words ") (decimal n)) (omega arith)
+
+-- a name as the code holds it: its bytes are the text
+module _ (r : Name) (t : List ℕ) (e : r ≡ spelled t) where
+  pub name-room : r .len ≤ length (r .bytes)
+  name-room = rw e (padded-room 8 t (length t) refl)
+
+  pub name-taken : take (r .len) (r .bytes) ≡ t
+  name-taken = rw e (take-padded 8 t (length t) refl)
+
+  pub name-count : r .len ≡ length (take (r .len) (r .bytes))
+  name-count = rw (name-taken, e)

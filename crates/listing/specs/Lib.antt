@@ -1,0 +1,4 @@
+-- The listing of a program: what the contracts cite.
+pub mod Number
+pub mod Listing
+pub mod Buffer
