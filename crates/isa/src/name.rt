@@ -27,47 +27,47 @@ fn binary_name(op: BinaryOp) -> Name
 {
     match op {
         BinaryOp::Or => Name {
-            bytes: *b"or\0\0\0\0\0\0",
+            bytes: [b'o', b'r', 0, 0, 0, 0, 0, 0],
             len: 2,
         },
         BinaryOp::And => Name {
-            bytes: *b"and\0\0\0\0\0",
+            bytes: [b'a', b'n', b'd', 0, 0, 0, 0, 0],
             len: 3,
         },
         BinaryOp::Xor => Name {
-            bytes: *b"xor\0\0\0\0\0",
+            bytes: [b'x', b'o', b'r', 0, 0, 0, 0, 0],
             len: 3,
         },
         BinaryOp::Add => Name {
-            bytes: *b"add\0\0\0\0\0",
+            bytes: [b'a', b'd', b'd', 0, 0, 0, 0, 0],
             len: 3,
         },
         BinaryOp::Sub => Name {
-            bytes: *b"sub\0\0\0\0\0",
+            bytes: [b's', b'u', b'b', 0, 0, 0, 0, 0],
             len: 3,
         },
         BinaryOp::Mullo => Name {
-            bytes: *b"mullo\0\0\0",
+            bytes: [b'm', b'u', b'l', b'l', b'o', 0, 0, 0],
             len: 5,
         },
         BinaryOp::Mulhi => Name {
-            bytes: *b"mulhi\0\0\0",
+            bytes: [b'm', b'u', b'l', b'h', b'i', 0, 0, 0],
             len: 5,
         },
         BinaryOp::Mulhu => Name {
-            bytes: *b"mulhu\0\0\0",
+            bytes: [b'm', b'u', b'l', b'h', b'u', 0, 0, 0],
             len: 5,
         },
         BinaryOp::Ashr => Name {
-            bytes: *b"ashr\0\0\0\0",
+            bytes: [b'a', b's', b'h', b'r', 0, 0, 0, 0],
             len: 4,
         },
         BinaryOp::Shr => Name {
-            bytes: *b"shr\0\0\0\0\0",
+            bytes: [b's', b'h', b'r', 0, 0, 0, 0, 0],
             len: 3,
         },
         BinaryOp::Shl => Name {
-            bytes: *b"shl\0\0\0\0\0",
+            bytes: [b's', b'h', b'l', 0, 0, 0, 0, 0],
             len: 3,
         },
     }
@@ -78,23 +78,23 @@ fn unary_name(op: UnaryOp) -> Name
 {
     match op {
         UnaryOp::Clz => Name {
-            bytes: *b"clz\0\0\0\0\0",
+            bytes: [b'c', b'l', b'z', 0, 0, 0, 0, 0],
             len: 3,
         },
         UnaryOp::Ctz => Name {
-            bytes: *b"ctz\0\0\0\0\0",
+            bytes: [b'c', b't', b'z', 0, 0, 0, 0, 0],
             len: 3,
         },
         UnaryOp::Move => Name {
-            bytes: *b"move\0\0\0\0",
+            bytes: [b'm', b'o', b'v', b'e', 0, 0, 0, 0],
             len: 4,
         },
         UnaryOp::Sext8 => Name {
-            bytes: *b"sext8\0\0\0",
+            bytes: [b's', b'e', b'x', b't', b'8', 0, 0, 0],
             len: 5,
         },
         UnaryOp::Sext16 => Name {
-            bytes: *b"sext16\0\0",
+            bytes: [b's', b'e', b'x', b't', b'1', b'6', 0, 0],
             len: 6,
         },
     }
@@ -105,43 +105,43 @@ fn compare_name(op: CompareOp) -> Name
 {
     match op {
         CompareOp::Eq => Name {
-            bytes: *b"cmpeq\0\0\0",
+            bytes: [b'c', b'm', b'p', b'e', b'q', 0, 0, 0],
             len: 5,
         },
         CompareOp::Ne => Name {
-            bytes: *b"cmpne\0\0\0",
+            bytes: [b'c', b'm', b'p', b'n', b'e', 0, 0, 0],
             len: 5,
         },
         CompareOp::Gt => Name {
-            bytes: *b"cmpgt\0\0\0",
+            bytes: [b'c', b'm', b'p', b'g', b't', 0, 0, 0],
             len: 5,
         },
         CompareOp::Ge => Name {
-            bytes: *b"cmpge\0\0\0",
+            bytes: [b'c', b'm', b'p', b'g', b'e', 0, 0, 0],
             len: 5,
         },
         CompareOp::Lt => Name {
-            bytes: *b"cmplt\0\0\0",
+            bytes: [b'c', b'm', b'p', b'l', b't', 0, 0, 0],
             len: 5,
         },
         CompareOp::Le => Name {
-            bytes: *b"cmple\0\0\0",
+            bytes: [b'c', b'm', b'p', b'l', b'e', 0, 0, 0],
             len: 5,
         },
         CompareOp::Ugt => Name {
-            bytes: *b"cmpugt\0\0",
+            bytes: [b'c', b'm', b'p', b'u', b'g', b't', 0, 0],
             len: 6,
         },
         CompareOp::Uge => Name {
-            bytes: *b"cmpuge\0\0",
+            bytes: [b'c', b'm', b'p', b'u', b'g', b'e', 0, 0],
             len: 6,
         },
         CompareOp::Ult => Name {
-            bytes: *b"cmpult\0\0",
+            bytes: [b'c', b'm', b'p', b'u', b'l', b't', 0, 0],
             len: 6,
         },
         CompareOp::Ule => Name {
-            bytes: *b"cmpule\0\0",
+            bytes: [b'c', b'm', b'p', b'u', b'l', b'e', 0, 0],
             len: 6,
         },
     }
@@ -155,11 +155,11 @@ fn r_name(op: Operation) -> Name
         Operation::Unary(op) => unary_name(op),
         Operation::Compare(op) => compare_name(op),
         Operation::Shuffle => Name {
-            bytes: *b"shuffle\0",
+            bytes: [b's', b'h', b'u', b'f', b'f', b'l', b'e', 0],
             len: 7,
         },
         Operation::GetLane => Name {
-            bytes: *b"getlane\0",
+            bytes: [b'g', b'e', b't', b'l', b'a', b'n', b'e', 0],
             len: 7,
         },
     }
@@ -187,15 +187,15 @@ fn movei_name(op: MoveiOp) -> Name
 {
     match op {
         MoveiOp::Low => Name {
-            bytes: *b"moveil\0\0",
+            bytes: [b'm', b'o', b'v', b'e', b'i', b'l', 0, 0],
             len: 6,
         },
         MoveiOp::High => Name {
-            bytes: *b"moveih\0\0",
+            bytes: [b'm', b'o', b'v', b'e', b'i', b'h', 0, 0],
             len: 6,
         },
         MoveiOp::Whole => Name {
-            bytes: *b"movei\0\0\0",
+            bytes: [b'm', b'o', b'v', b'e', b'i', 0, 0, 0],
             len: 5,
         },
     }
@@ -206,23 +206,23 @@ fn j_name(op: JumpOp) -> Name
 {
     match op {
         JumpOp::Jmp => Name {
-            bytes: *b"jmp\0\0\0\0\0",
+            bytes: [b'j', b'm', b'p', 0, 0, 0, 0, 0],
             len: 3,
         },
         JumpOp::Jmpsr => Name {
-            bytes: *b"jmpsr\0\0\0",
+            bytes: [b'j', b'm', b'p', b's', b'r', 0, 0, 0],
             len: 5,
         },
         JumpOp::Jret => Name {
-            bytes: *b"jret\0\0\0\0",
+            bytes: [b'j', b'r', b'e', b't', 0, 0, 0, 0],
             len: 4,
         },
         JumpOp::Beqz => Name {
-            bytes: *b"beqz\0\0\0\0",
+            bytes: [b'b', b'e', b'q', b'z', 0, 0, 0, 0],
             len: 4,
         },
         JumpOp::Bnez => Name {
-            bytes: *b"bnez\0\0\0\0",
+            bytes: [b'b', b'n', b'e', b'z', 0, 0, 0, 0],
             len: 4,
         },
     }
@@ -233,15 +233,15 @@ fn c_name(op: ControlOp) -> Name
 {
     match op {
         ControlOp::Barrier => Name {
-            bytes: *b"barrier\0",
+            bytes: [b'b', b'a', b'r', b'r', b'i', b'e', b'r', 0],
             len: 7,
         },
         ControlOp::Readcr => Name {
-            bytes: *b"readcr\0\0",
+            bytes: [b'r', b'e', b'a', b'd', b'c', b'r', 0, 0],
             len: 6,
         },
         ControlOp::End => Name {
-            bytes: *b"end\0\0\0\0\0",
+            bytes: [b'e', b'n', b'd', 0, 0, 0, 0, 0],
             len: 3,
         },
     }
@@ -252,23 +252,23 @@ fn load_name(op: LoadOp) -> Name
 {
     match op {
         LoadOp::Load8 => Name {
-            bytes: *b"load8\0\0\0",
+            bytes: [b'l', b'o', b'a', b'd', b'8', 0, 0, 0],
             len: 5,
         },
         LoadOp::Load16 => Name {
-            bytes: *b"load16\0\0",
+            bytes: [b'l', b'o', b'a', b'd', b'1', b'6', 0, 0],
             len: 6,
         },
         LoadOp::Load32 => Name {
-            bytes: *b"load32\0\0",
+            bytes: [b'l', b'o', b'a', b'd', b'3', b'2', 0, 0],
             len: 6,
         },
         LoadOp::Load8u => Name {
-            bytes: *b"load8u\0\0",
+            bytes: [b'l', b'o', b'a', b'd', b'8', b'u', 0, 0],
             len: 6,
         },
         LoadOp::Load16u => Name {
-            bytes: *b"load16u\0",
+            bytes: [b'l', b'o', b'a', b'd', b'1', b'6', b'u', 0],
             len: 7,
         },
     }
@@ -279,15 +279,15 @@ fn store_name(op: StoreOp) -> Name
 {
     match op {
         StoreOp::Store8 => Name {
-            bytes: *b"store8\0\0",
+            bytes: [b's', b't', b'o', b'r', b'e', b'8', 0, 0],
             len: 6,
         },
         StoreOp::Store16 => Name {
-            bytes: *b"store16\0",
+            bytes: [b's', b't', b'o', b'r', b'e', b'1', b'6', 0],
             len: 7,
         },
         StoreOp::Store32 => Name {
-            bytes: *b"store32\0",
+            bytes: [b's', b't', b'o', b'r', b'e', b'3', b'2', 0],
             len: 7,
         },
     }
@@ -300,11 +300,11 @@ fn m_name(op: MemoryOp) -> Name
         MemoryOp::Load(op) => load_name(op),
         MemoryOp::Store(op) => store_name(op),
         MemoryOp::LoadVector => Name {
-            bytes: *b"loadv\0\0\0",
+            bytes: [b'l', b'o', b'a', b'd', b'v', 0, 0, 0],
             len: 5,
         },
         MemoryOp::StoreVector => Name {
-            bytes: *b"storev\0\0",
+            bytes: [b's', b't', b'o', b'r', b'e', b'v', 0, 0],
             len: 6,
         },
     }

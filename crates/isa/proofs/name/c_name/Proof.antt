@@ -1,5 +1,4 @@
 -- `c_name` meets its contract: by the arm that was taken.
-use borrow.Author.Needs.{needs}
 use Rattle.isa.proofs.name.c_name.Statement.{statement}
 use Rattle.isa.proofs.name.c_name.Tie as tie
 use Rattle.isa.specs.Text.{bytes}
@@ -9,9 +8,9 @@ unfolding bytes
 c-name-spec =
     tie.close
     (tie.spec
-    (λ c. search needs)
-    (λ c. search needs)
-    (λ c. search needs)
-    (λ c. rw (c .before .before .enum-told .given .1))
-    (λ c. rw (c .before .before .enum-told2 .given .1))
-    (λ c. rw (c .before .before .enum-told3 .given .1)))
+    (λ c. c .match .keys1)
+    (λ c. c .match .keys2)
+    (λ c. c .match .keys3)
+    (λ c. rw (c .enum-told .given .1))
+    (λ c. rw (c .enum-told2 .given .1))
+    (λ c. rw (c .enum-told3 .given .1)))

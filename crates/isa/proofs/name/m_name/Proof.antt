@@ -9,13 +9,13 @@ unfolding bytes
 m-name-spec =
     tie.close
     (tie.spec
-    (λ c. search needs)
+    (λ c. c .match .keys1)
     (λ c κs. search needs)
-    (λ c. search needs)
+    (λ c. c .match .keys2)
     (λ c κs. search needs)
-    (λ c. search needs)
-    (λ c. search needs)
+    (λ c. c .match .keys3)
+    (λ c. c .match .keys4)
     (λ c. rw (c .before .before .op .given .1) (c .load-name .ensures))
     (λ c. rw (c .before .before .op2 .given .1) (c .store-name .ensures))
-    (λ c. rw (c .before .before .enum-told .given .1))
-    (λ c. rw (c .before .before .enum-told2 .given .1)))
+    (λ c. rw (c .enum-told .given .1))
+    (λ c. rw (c .enum-told2 .given .1)))

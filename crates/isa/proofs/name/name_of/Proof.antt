@@ -7,17 +7,17 @@ pub name-of-spec : {M : Type 1} → statement M
 name-of-spec =
     tie.close
     (tie.spec
-    (λ c. search needs)
+    (λ c. c .match .keys1)
     (λ c κs. search needs)
-    (λ c. search needs)
+    (λ c. c .match .keys2)
     (λ c κs. search needs)
-    (λ c. search needs)
+    (λ c. c .match .keys3)
     (λ c κs. search needs)
-    (λ c. search needs)
+    (λ c. c .match .keys4)
     (λ c κs. search needs)
-    (λ c. search needs)
+    (λ c. c .match .keys5)
     (λ c κs. search needs)
-    (λ c. search needs)
+    (λ c. c .match .keys6)
     (λ c κs. search needs)
     (λ c. rw (c .before .before .i .given .1) (c .r-name .ensures))
     (λ c. rw (c .before .before .i2 .given .1) (c .i-name .ensures))

@@ -7,10 +7,10 @@ pub c-allows-spec : {M : Type 1} → statement M
 c-allows-spec =
     tie.close
     (tie.spec
-    (λ c. search needs)
-    (λ c. search needs)
+    (λ c. c .match .keys1)
+    (λ c. c .match .keys2)
     (λ c κs. search needs)
+    (λ c. c .match .keys3)
     (λ c. search needs)
-    (λ c. search needs)
-    (λ c. cc)
-    (λ c. cc))
+    (λ c. rw (c .before .enum-told2 .given .1) (c .is-destination .ensures))
+    (λ c. rw (c .enum-told3 .given .1)))

@@ -7,13 +7,13 @@ pub i-flags-spec : {M : Type 1} → statement M
 i-flags-spec =
     tie.close
     (tie.spec
+    (λ c. c .match .keys1)
+    (λ c. c .match .keys2)
+    (λ c. c .match .keys3)
+    (λ c. c .match .keys4)
+    (λ c. c .match .keys5)
+    (λ c. rw (c .enum-told .given .1))
     (λ c. search needs)
+    (λ c. rw (c .enum-told3 .given .1))
     (λ c. search needs)
-    (λ c. search needs)
-    (λ c. search needs)
-    (λ c. search needs)
-    (λ c. cc)
-    (λ c. search needs)
-    (λ c. cc)
-    (λ c. search needs)
-    (λ c. cc))
+    (λ c. rw (c .enum-told5 .given .1)))

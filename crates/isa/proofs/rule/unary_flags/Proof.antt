@@ -1,5 +1,4 @@
 -- `unary_flags` meets its contract: by the arm that was taken.
-use borrow.Author.Needs.{needs}
 use Rattle.isa.proofs.rule.unary_flags.Statement.{statement}
 use Rattle.isa.proofs.rule.unary_flags.Tie as tie
 
@@ -7,13 +6,13 @@ pub unary-flags-spec : {M : Type 1} → statement M
 unary-flags-spec =
     tie.close
     (tie.spec
-    (λ c. search needs)
-    (λ c. search needs)
-    (λ c. search needs)
-    (λ c. search needs)
-    (λ c. search needs)
-    (λ c. cc)
-    (λ c. cc)
-    (λ c. cc)
-    (λ c. cc)
-    (λ c. cc))
+    (λ c. c .match .keys1)
+    (λ c. c .match .keys2)
+    (λ c. c .match .keys3)
+    (λ c. c .match .keys4)
+    (λ c. c .match .keys5)
+    (λ c. rw (c .enum-told .given .1))
+    (λ c. rw (c .enum-told2 .given .1))
+    (λ c. rw (c .enum-told3 .given .1))
+    (λ c. rw (c .enum-told4 .given .1))
+    (λ c. rw (c .enum-told5 .given .1)))

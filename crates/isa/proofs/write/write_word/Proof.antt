@@ -9,17 +9,17 @@ pub write-word-spec : {M : Type 1} → statement M
 write-word-spec =
     tie.close
     (tie.spec
-    (λ c. search needs)
+    (λ c. c .match .keys1)
     (λ c κs. search needs)
-    (λ c. search needs)
+    (λ c. c .match .keys2)
     (λ c κs. search needs)
-    (λ c. search needs)
+    (λ c. c .match .keys3)
     (λ c κs. search needs)
-    (λ c. search needs)
+    (λ c. c .match .keys4)
     (λ c κs. search needs)
-    (λ c. search needs)
+    (λ c. c .match .keys5)
     (λ c κs. search needs)
-    (λ c. search needs)
+    (λ c. c .match .keys6)
     (λ c κs. search needs)
     (λ c. c .write-r .ensures ∙ ap write (sym (c .before .before .i .given .1)))
     (λ c. c .write-i .ensures ∙ ap write (sym (c .before .before .i2 .given .1)))
