@@ -10,7 +10,7 @@ use native.Mathlib.Omega.{arith}
 use lib.ListN.{length}
 use Rattle.isa.proofs.Both.{Each, each, together}
 use Rattle.isa.proofs.Parts.{covers, split-join, join-split, join-below, room-split}
-use Rattle.isa.specs.Answer.{Answer, given, refused, undefined}
+use Rattle.answer.specs.Answer.{Answer, given, refused, undefined}
 use Rattle.isa.specs.Layout.{Part, split, join, room}
 use Rattle.isa.specs.Read.{accepted, listed}
 use Rattle.isa.specs.Test.{all}

@@ -5,7 +5,7 @@ use mathlib.Core.Path.{_≡_}
 use native.Mathlib.Omega.{arith}
 use lib.Dec.{eqb}
 use borrow.Author.Tests.{eq-eqb, ne-eqb}
-use Rattle.isa.specs.Answer.{refused, undefined}
+use Rattle.answer.specs.Answer.{refused, undefined}
 use Rattle.isa.specs.Layout.{bits}
 use Rattle.isa.specs.Read.{read, readR, readI, readMovei, readJ, readC, readM}
 

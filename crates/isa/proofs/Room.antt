@@ -4,7 +4,7 @@ use mathlib.Core.Bool.{Bool, true, false, _&&_, and-true}
 use mathlib.Core.List.{List, [], _∷_}
 use mathlib.Core.Option.{Option, none, some}
 use mathlib.Core.Path.{_≡_, refl, _∙_, ap}
-use Rattle.isa.specs.Answer.{given, refused, no-word}
+use Rattle.answer.specs.Answer.{given, refused, no-word}
 use Rattle.isa.specs.Test.{all, allFrom}
 use Rattle.isa.specs.Write.{written}
 

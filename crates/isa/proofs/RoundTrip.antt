@@ -13,7 +13,7 @@ use Rattle.isa.proofs.Formats.{is-R, is-I, is-Movei, is-J, is-C, is-M}
 use Rattle.isa.proofs.Lookup.{found}
 use Rattle.isa.proofs.Signed.{cut-signed, fits-signed-field, signed-cut}
 use Rattle.isa.proofs.Tables.{finds-R, finds-Movei, finds-J, finds-C, finds-M}
-use Rattle.isa.specs.Answer.{Answer, given, refused, undefined, not-fitted}
+use Rattle.answer.specs.Answer.{Answer, given, refused, undefined, not-fitted}
 use Rattle.isa.specs.Claims.{Exact, Apart}
 use Rattle.isa.specs.Layout.{bits, layoutR, layoutI, layoutMovei, layoutJ, layoutC, layoutM, cut, signed}
 use Rattle.isa.specs.Read.{read, readR, readI, readMovei, readJ, readC, readM, asR, asI, asMovei, asJ, asC, asM, accepted, listed}

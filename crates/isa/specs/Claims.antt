@@ -2,7 +2,7 @@
 use Prim.Native.Nat.{ℕ, _<_, _^_}
 use mathlib.Core.Path.{_≡_}
 use mathlib.Core.Logic.{_↔_}
-use Rattle.isa.specs.Answer.{given}
+use Rattle.answer.specs.Answer.{given}
 use Rattle.isa.specs.Read.{read}
 use Rattle.isa.specs.Types.{Instruction}
 use Rattle.isa.specs.Write.{write}

@@ -2,7 +2,7 @@
 use Prim.Native.Nat.{ℕ}
 use mathlib.Core.List.{List, [], _∷_}
 use mathlib.Core.Path.{_≡_}
-use Rattle.isa.specs.Answer.{Answer, given, refused, undefined, not-fitted}
+use Rattle.answer.specs.Answer.{Answer, given, refused, undefined, not-fitted}
 use Rattle.isa.specs.Read.{read}
 use Rattle.isa.specs.Types.{Add, Lt, Binary, Compare, Whole, Load32, Load, Instruction, R, I, Movei, M}
 

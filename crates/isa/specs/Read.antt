@@ -4,7 +4,7 @@ use mathlib.Core.Bool.{Bool, true, false, not, cond}
 use mathlib.Core.List.{List, [], _∷_}
 use mathlib.Core.Option.{Option, none, some}
 use lib.Dec.{eqb}
-use Rattle.isa.specs.Answer.{Answer, given, refused, undefined, not-fitted}
+use Rattle.answer.specs.Answer.{Answer, given, refused, undefined, not-fitted}
 use Rattle.isa.specs.Layout.{bits, signed}
 use Rattle.isa.specs.Rule.{allowsR, allowsI, allowsMovei, allowsJ, allowsC, allowsM}
 use Rattle.isa.specs.Table.{tableR, tableMovei, tableJ, tableC, tableM, not-fitted-opcodes, operationAt}

@@ -2,7 +2,7 @@
 use Prim.Native.Nat.{ℕ, _^_}
 use mathlib.Core.Bool.{Bool, true, false, _&&_}
 use mathlib.Core.List.{List, [], _∷_}
-use Rattle.isa.specs.Answer.{Answer, given, refused, no-word}
+use Rattle.answer.specs.Answer.{Answer, given, refused, no-word}
 use Rattle.isa.specs.Layout.{Part, join, room, layoutR, layoutI, layoutMovei, layoutJ, layoutC, layoutM, cut, fits-signed}
 use Rattle.isa.specs.Rule.{allowsR, allowsI, allowsMovei, allowsJ, allowsC, allowsM}
 use Rattle.isa.specs.Table.{rowR, rowI, rowMovei, rowJ, rowC, rowM}

@@ -9,7 +9,7 @@ use lib.Dec.{eqb, ltb, lit≤}
 use lib.ListN.{length, take, replicate, length-append}
 use lib.Seq.{take-at}
 use Rattle.isa.proofs.Names.{fits}
-use Rattle.isa.specs.Answer.{Answer, given, refused, undefined}
+use Rattle.answer.specs.Answer.{Answer, given, refused, undefined}
 use Rattle.isa.specs.Name.{spelled}
 use Rattle.isa.specs.Read.{read}
 use Rattle.isa.specs.Text.{bytes, padded}

@@ -4,7 +4,7 @@ use mathlib.Core.Bool.{Bool, _||_, not, cond}
 use mathlib.Core.List.{List, [], _∷_, _++_}
 use lib.Dec.{eqb, ltb}
 use lib.ListN.{length, getD}
-use Rattle.isa.specs.Answer.{Answer, given, refused, undefined}
+use Rattle.answer.specs.Answer.{Answer, given, refused, undefined}
 use Rattle.isa.specs.Name.{nameOf}
 use Rattle.isa.specs.Read.{read}
 use Rattle.isa.specs.Text.{bytes}

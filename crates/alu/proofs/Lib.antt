@@ -1,0 +1,9 @@
+-- Laws that several proofs cite, and the proofs of the claims.
+pub mod Products
+pub mod Complement
+pub mod Counts
+pub mod Signs
+pub mod Signed
+pub mod Filling
+pub mod Order
+pub mod Flags

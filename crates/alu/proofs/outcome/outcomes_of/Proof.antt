@@ -1,0 +1,22 @@
+-- `outcome::outcomes_of` meets its contract.
+use mathlib.Core.Path.{ap, _∙_}
+use borrow.Author.Needs.{needs}
+use Rattle.alu.specs.Outcome.{flagsOf}
+use Rattle.alu.proofs.outcome.outcomes_of.Statement.{statement}
+use Rattle.alu.proofs.outcome.outcomes_of.Tie as tie
+
+returns : tie.Need-returns
+returns c = cc
+
+pub outcomes-of-spec : {M : Type 1} → statement M
+outcomes-of-spec =
+    tie.close
+    (tie.spec
+    (λ c κs. search needs)
+    (λ c κs. search needs)
+    (λ c κs. search needs)
+    (λ c κs. search needs)
+    (λ c κs. search needs)
+    (λ c κs. search needs)
+    (λ c κs. search needs)
+    returns)

@@ -1,0 +1,25 @@
+-- The operations on two words (document 01, "The words", R).
+use Prim.Native.Nat.{ℕ, _+_, _-_, _*_, _/_, _%_, _^_}
+use lib.Bits.{bitAnd, bitOr, bitXor}
+use Rattle.alu.specs.Types.{BinaryOp, Or, And, Xor, Add, Sub, Mullo, Mulhi, Mulhu, Ashr, Shr, Shl}
+use Rattle.alu.specs.Word.{extended}
+
+-- "Shifts use the low five bits of b."
+abbrev pub distance : ℕ → ℕ
+distance y = y % 2 ^ 5
+
+-- "1 or, 2 and, 3 xor, 4 add, 5 sub, 6 mullo, 7 mulhi (signed), 8 mulhu, 9 ashr, 10 shr, 11 shl."
+-- "Sums and differences wrap at 32 bits; mullo is the low half of the product."
+-- The signed operations work on their operands extended to 64 bits.
+abbrev pub binary : BinaryOp → ℕ → ℕ → ℕ
+binary Or x y = bitOr x y
+binary And x y = bitAnd x y
+binary Xor x y = bitXor x y
+binary Add x y = (x + y) % 2 ^ 32
+binary Sub x y = (x + (2 ^ 32 - y)) % 2 ^ 32
+binary Mullo x y = x * y % 2 ^ 32
+binary Mulhi x y = extended 32 64 x * extended 32 64 y % 2 ^ 64 / 2 ^ 32
+binary Mulhu x y = x * y / 2 ^ 32
+binary Ashr x y = extended 32 64 x / 2 ^ distance y % 2 ^ 32
+binary Shr x y = x / 2 ^ distance y
+binary Shl x y = x * 2 ^ distance y % 2 ^ 32

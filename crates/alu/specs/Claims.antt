@@ -1,0 +1,54 @@
+-- What is proved of the definitions.
+use Prim.Native.Nat.{ℕ, _<_, _%_, _^_}
+use mathlib.Core.Path.{_≡_}
+use mathlib.Core.List.{List}
+use lib.IntN.{_*ℤ_}
+use lib.ListN.{length}
+use lib.Signed.{ltZ, leZ, shrZ}
+use Rattle.alu.specs.Types.{BinaryOp, Mulhi, Ashr, UnaryOp, Sext8, Sext16, Gt, Ge, Lt, Le}
+use Rattle.alu.specs.Word.{value}
+use Rattle.alu.specs.Binary.{binary, distance}
+use Rattle.alu.specs.Unary.{unary}
+use Rattle.alu.specs.Compare.{compare}
+use Rattle.alu.specs.Lanes.{tab, lane, binaryLanes, unaryLanes, shuffled, blended, splatted}
+
+-- "7 mulhi (signed)": the signed product, divided by 2^32 and rounded down
+abbrev pub MulhiIsSigned : Type 0
+MulhiIsSigned = (x y : ℕ) → x < 2 ^ 32 → y < 2 ^ 32 → value 32 (binary Mulhi x y) ≡ shrZ (value 32 x *ℤ value 32 y) (2 ^ 32)
+
+-- "9 ashr": the signed number, divided by a power of two and rounded down
+abbrev pub AshrIsSigned : Type 0
+AshrIsSigned = (x y : ℕ) → x < 2 ^ 32 → value 32 (binary Ashr x y) ≡ shrZ (value 32 x) (2 ^ distance y)
+
+-- "43 sext8, 44 sext16": the signed number of the low bits
+abbrev pub Sext8IsSigned : Type 0
+Sext8IsSigned = (x : ℕ) → value 32 (unary Sext8 x) ≡ value 8 (x % 2 ^ 8)
+
+abbrev pub Sext16IsSigned : Type 0
+Sext16IsSigned = (x : ℕ) → value 32 (unary Sext16 x) ≡ value 16 (x % 2 ^ 16)
+
+-- "signed 16 cmpgt, 17 cmpge, 18 cmplt, 19 cmple": the order of the signed numbers
+pub record ComparesAreSigned (x y : ℕ) : Type 0 where
+  pub gt : compare Gt x y ≡ ltZ (value 32 y) (value 32 x)
+  pub ge : compare Ge x y ≡ leZ (value 32 y) (value 32 x)
+  pub lt : compare Lt x y ≡ ltZ (value 32 x) (value 32 y)
+  pub le : compare Le x y ≡ leZ (value 32 x) (value 32 y)
+
+abbrev pub SignedOrder : Type 0
+SignedOrder = (x y : ℕ) → x < 2 ^ 32 → y < 2 ^ 32 → ComparesAreSigned x y
+
+-- a list given place by place has that many places,
+abbrev pub TabLength : Type 0
+TabLength = (n : ℕ) (f : ℕ → ℕ) → length (tab n f) ≡ n
+
+-- and holds at each what is given for it
+abbrev pub TabLane : Type 0
+TabLane = (n j : ℕ) (f : ℕ → ℕ) → j < n → lane (tab n f) j ≡ f j
+
+-- the results on lanes are sixteen lanes
+pub record SixteenLanes : Type 0 where
+  pub of-binary : (op : BinaryOp) (x y : List ℕ) → length (binaryLanes op x y) ≡ 16
+  pub of-unary : (op : UnaryOp) (x : List ℕ) → length (unaryLanes op x) ≡ 16
+  pub of-shuffle : (x y : List ℕ) → length (shuffled x y) ≡ 16
+  pub of-blend : (mask : ℕ) (new old : List ℕ) → length (blended mask new old) ≡ 16
+  pub of-splat : (x : ℕ) → length (splatted x) ≡ 16

@@ -1,0 +1,19 @@
+-- The compares of two words (document 01, "The words", R).
+use Prim.Native.Nat.{ℕ}
+use mathlib.Core.Bool.{Bool, not}
+use lib.Dec.{eqb, leb, ltb}
+use Rattle.alu.specs.Types.{CompareOp, Eq, Ne, Gt, Ge, Lt, Le, Ugt, Uge, Ult, Ule}
+use Rattle.alu.specs.Word.{rank}
+
+-- "14 cmpeq, 15 cmpne, signed 16 cmpgt, 17 cmpge, 18 cmplt, 19 cmple, unsigned 20 cmpugt, 21 cmpuge, 22 cmpult, 23 cmpule."
+abbrev pub compare : CompareOp → ℕ → ℕ → Bool
+compare Eq x y = eqb x y
+compare Ne x y = not (eqb x y)
+compare Gt x y = ltb (rank y) (rank x)
+compare Ge x y = leb (rank y) (rank x)
+compare Lt x y = ltb (rank x) (rank y)
+compare Le x y = leb (rank x) (rank y)
+compare Ugt x y = ltb y x
+compare Uge x y = leb y x
+compare Ult x y = ltb x y
+compare Ule x y = leb x y

@@ -1,0 +1,48 @@
+-- What a call gives back: a value, or a number of document 01's table "Numbers given back".
+use Prim.Native.Nat.{ℕ}
+
+pub data Answer (A : Type 0) : Type 0 where
+  given : A → Answer A
+  refused : ℕ → Answer A
+
+-- The table: "no.", and "given exactly when".
+
+-- "1: program has 0 or more than 16,384 words (lister: also input not whole words)"
+abbrev pub bad-program : ℕ
+bad-program = 1
+
+-- "2: register room is not 8,704 words"
+abbrev pub bad-registers : ℕ
+bad-registers = 2
+
+-- "3: memory length is not allowed"
+abbrev pub bad-memory : ℕ
+bad-memory = 3
+
+-- "4: machine record is not well formed, a number in it is out of range, or an image field not carried is not 0"
+abbrev pub bad-record : ℕ
+bad-record = 4
+
+-- "5: start mask is 0 or above 255"
+abbrev pub bad-mask : ℕ
+bad-mask = 5
+
+-- "6: instruction to be written has no word"
+abbrev pub no-word : ℕ
+no-word = 6
+
+-- "7: word to be read is undefined"
+abbrev pub undefined : ℕ
+undefined = 7
+
+-- "8: word to be read is not fitted"
+abbrev pub not-fitted : ℕ
+not-fitted = 8
+
+-- "9: image length differs from 36,948 + 68 x (memory length / 64)"
+abbrev pub bad-length : ℕ
+bad-length = 9
+
+-- "10: an image record has a wrong mark, or a thread, register or block number out of place"
+abbrev pub bad-image : ℕ
+bad-image = 10

@@ -1,0 +1,2 @@
+-- What a call gives back: what the contracts of every crate cite.
+pub mod Answer

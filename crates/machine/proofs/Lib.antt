@@ -1,0 +1,14 @@
+-- The laws that several proofs cite, and the proofs of the claims.
+pub mod Tests
+pub mod Loops
+pub mod Threads
+pub mod Nearest
+pub mod Choosing
+pub mod Entries
+pub mod Conditions
+pub mod Kept
+pub mod Meetings
+pub mod Arrivals
+pub mod Starting
+pub mod Numbers
+pub mod Claims

@@ -1,0 +1,70 @@
+-- Laws of the loops over the eight threads: one that searches goes by `from`, one that changes every entry by `restated`.
+use Prim.Native.Nat.{ℕ, zero, suc, _+_, _-_, _<_, _≤_}
+use mathlib.Core.Path.{_≡_, refl, sym, ap, _∙_}
+use mathlib.Core.List.{List, [], _∷_, map}
+use native.Mathlib.Numerals.{add-one}
+use native.Mathlib.Omega.{arith}
+use lib.ListN.{length, getD, set}
+use Rattle.machine.specs.Machine.{zeroThread, statusAt, withStatus, withStatusAt}
+use Rattle.machine.specs.Types.{Status, Thread, Machine}
+
+-- n numbers from k up
+unfoldable pub from : ℕ → ℕ → List ℕ
+from k zero = []
+from k (suc n) = k ∷ from (suc k) n
+
+from-step : (k n : ℕ) → k < n → from k (n - k) ≡ k ∷ from (k + 1) (n - (k + 1))
+unfolding from
+from-step k n l = let e : n - k ≡ suc (n - (k + 1)) = omega arith in rw (e, add-one)
+
+from-end : (k n : ℕ) → n ≤ k → from k (n - k) ≡ []
+unfolding from
+from-end k n l = let e : n - k ≡ 0 = omega arith in rw e
+
+-- what a loop up to n, now at k, is left to find: it looks at k first, or at nothing any more
+pub look : {B : Type 0} (find : List ℕ → B) {b : B} (k n : ℕ) → k < n → find (k ∷ from (k + 1) (n - (k + 1))) ≡ b → find (from k (n - k)) ≡ b
+look find k n l e = ap find (from-step k n l) ∙ e
+
+pub stop : {B : Type 0} (find : List ℕ → B) {b : B} (k n : ℕ) → n ≤ k → find [] ≡ b → find (from k (n - k)) ≡ b
+stop find k n l e = ap find (from-end k n l) ∙ e
+
+-- the entries with the first t restated: entry u has the status s u
+unfoldable pub restated : (ℕ → Status) → List Thread → ℕ → List Thread
+restated s xs zero = xs
+restated s [] (suc t) = []
+restated s (x ∷ xs) (suc t) = withStatus x (s 0) ∷ restated (λ u. s (suc u)) xs t
+
+-- the record so
+abbrev pub restatedTo : (ℕ → Status) → Machine → ℕ → Machine
+restatedTo s m t = record { enabled = m .enabled; last = m .last; threads = restated s (m .threads) t }
+
+restated-next : (s : ℕ → Status) (xs : List Thread) (t : ℕ) → getD (restated s xs t) t zeroThread ≡ getD xs t zeroThread
+unfolding restated
+restated-next s xs zero = refl
+restated-next s [] (suc t) = refl
+restated-next s (x ∷ xs) (suc t) = restated-next (λ u. s (suc u)) xs t
+
+restated-suc : (s : ℕ → Status) (xs : List Thread) (t : ℕ) → t < length xs
+    → set (restated s xs t) t (withStatus (getD xs t zeroThread) (s t)) ≡ restated s xs (suc t)
+unfolding restated
+restated-suc s [] t l = absurd (omega arith)
+restated-suc s (x ∷ xs) zero l = refl
+restated-suc s (x ∷ xs) (suc t) l = ap {B = List Thread} (λ r. withStatus x (s 0) ∷ r) (restated-suc (λ u. s (suc u)) xs t (omega arith))
+
+-- the next thread's status is as it was
+pub status-next : (s : ℕ → Status) (m : Machine) (t : ℕ) → statusAt (restatedTo s m t) t ≡ statusAt m t
+status-next s m t = ap (λ e. e .status) (restated-next s (m .threads) t)
+
+-- and restating it makes one more
+pub restate : (s : ℕ → Status) (m : Machine) (t : ℕ) → t < length (m .threads) → withStatusAt (restatedTo s m t) t (s t) ≡ restatedTo s m (t + 1)
+restate s m t l =
+    ap (λ xs. record { enabled = m .enabled; last = m .last; threads = xs })
+    (ap (λ e. set (restated s (m .threads) t) t (withStatus e (s t))) (restated-next s (m .threads) t)
+    ∙ (restated-suc s (m .threads) t l ∙ ap (restated s (m .threads)) (sym (add-one t))))
+
+-- where the status goes by the entry alone, restating all of them is a map
+pub restated-map : (f : Status → Status) (xs : List Thread)
+    → restated (λ u. f (getD xs u zeroThread .status)) xs (length xs) ≡ map (λ x. withStatus x (f (x .status))) xs
+unfolding restated
+restated-map f [] = refl
+restated-map f (x ∷ xs) = ap {B = List Thread} (λ r. withStatus x (f (x .status)) ∷ r) (restated-map f xs)

@@ -1,0 +1,23 @@
+-- Laws of a meeting at a barrier.
+use Prim.Native.Nat.{ℕ, _+_, _≤_}
+use mathlib.Core.Bool.{false, _||_}
+use mathlib.Core.Path.{_≡_}
+use borrow.Author.Tests.{ltb-false}
+use lib.Dec.{ltb}
+use Rattle.machine.specs.Barrier.{refusesMeeting}
+use Rattle.machine.specs.WellFormed.{disputed}
+use Rattle.machine.specs.Types.{Machine}
+use Rattle.machine.proofs.Tests.{neither}
+
+-- a meeting that does not trap
+pub record Admitted (m : Machine) (t id second : ℕ) : Type 0 where
+  pub id-fits : id ≤ 31
+  pub second-fits : second ≤ 7
+  pub agreed : disputed m t id (second + 1) ≡ false
+
+pub admitted : (m : Machine) (t id second : ℕ) → refusesMeeting m t id second ≡ false → Admitted m t id second
+unfolding refusesMeeting
+admitted m t id second h =
+    let a = neither (ltb 31 id || ltb 7 second) (disputed m t id (second + 1)) h in
+    let b = neither (ltb 31 id) (ltb 7 second) (a .0) in
+    record { id-fits = ltb-false 31 id (b .0); second-fits = ltb-false 7 second (b .1); agreed = a .1 }

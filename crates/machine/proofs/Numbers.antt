@@ -1,0 +1,57 @@
+-- Entries and their numbers are inverse.
+use Prim.Native.Nat.{ℕ}
+use mathlib.Core.Bool.{Bool, true, false, cond, _&&_}
+use mathlib.Core.Option.{Option, none, some}
+use mathlib.Core.Path.{_≡_, refl, sym, ap, _∙_}
+use native.Mathlib.Omega.{arith}
+use borrow.Author.Tests.{eqb-true, eq-eqb}
+use lib.Dec.{eqb}
+use Rattle.machine.specs.Claims.{Exact}
+use Rattle.answer.specs.Answer.{given, refused}
+use Rattle.machine.specs.Fields.{statusFields, fieldsOf, numbered, sameFields, accepted, threadOf}
+use Rattle.machine.specs.Status.{carriesInRange}
+use Rattle.machine.specs.Types.{Status, Idle, Running, Ended, Trapped, Waiting, Thread, Fields}
+use Rattle.machine.proofs.Tests.{both}
+
+-- the numbers of a status name it
+named : (s : Status) → numbered (statusFields s) ≡ some s
+named Idle = refl
+named Running = refl
+named Ended = refl
+named (Trapped reason) = refl
+named (Waiting id count) = refl
+
+same-self : (f : Fields) → sameFields f f ≡ true
+same-self f = rw (eq-eqb (f .status) (f .status) refl, eq-eqb (f .reason) (f .reason) refl, eq-eqb (f .id) (f .id) refl, eq-eqb (f .count) (f .count) refl)
+
+same-fields : (f g : Fields) → sameFields f g ≡ true → f ≡ g
+same-fields f g h =
+    let a = both (eqb (f .status) (g .status) && eqb (f .reason) (g .reason) && eqb (f .id) (g .id)) (eqb (f .count) (g .count)) h in
+    let b = both (eqb (f .status) (g .status) && eqb (f .reason) (g .reason)) (eqb (f .id) (g .id)) (a .0) in
+    let c = both (eqb (f .status) (g .status)) (eqb (f .reason) (g .reason)) (b .0) in
+    let status = eqb-true (f .status) (g .status) (c .0) in
+    let reason = eqb-true (f .reason) (g .reason) (c .1) in
+    let id = eqb-true (f .id) (g .id) (b .1) in
+    let count = eqb-true (f .count) (g .count) (a .1) in
+    (λ i. record { status = status i; reason = reason i; id = id i; count = count i })
+
+pub exact : Exact
+unfolding threadOf accepted
+exact f e = (there (numbered f), back)
+  where
+    picked : (s : Status) (b : Bool) → (sameFields (statusFields s) f && carriesInRange s) ≡ b → cond b (given (record { status = s })) (refused 4) ≡ given e
+        → (fieldsOf e ≡ f) × (carriesInRange (e .status) ≡ true)
+    picked s true h g =
+        let a = both (sameFields (statusFields s) f) (carriesInRange s) h in
+        let q : record { status = s } ≡ e = cc in
+        (ap fieldsOf (sym q) ∙ same-fields (statusFields s) f (a .0), ap (λ (x : Thread). carriesInRange (x .status)) (sym q) ∙ a .1)
+    picked s false h g = absurd (let z : _≡_ {A = ℕ} 0 1 = cc in omega arith)
+
+    there : (o : Option Status) → accepted f o ≡ given e → (fieldsOf e ≡ f) × (carriesInRange (e .status) ≡ true)
+    there none h = absurd (let z : _≡_ {A = ℕ} 0 1 = cc in omega arith)
+    there (some s) h = picked s (sameFields (statusFields s) f && carriesInRange s) refl h
+
+    back : (fieldsOf e ≡ f) × (carriesInRange (e .status) ≡ true) → accepted f (numbered f) ≡ given e
+    back h =
+        let a : accepted (fieldsOf e) (some (e .status)) ≡ given e = rw (same-self (fieldsOf e), h .1) in
+        sym (ap (λ g. accepted g (numbered g)) (h .0)) ∙ (ap (accepted (fieldsOf e)) (named (e .status)) ∙ a)

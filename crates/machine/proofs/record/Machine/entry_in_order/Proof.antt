@@ -1,0 +1,9 @@
+-- `entry_in_order` meets its contract.
+use borrow.Author.Needs.{needs}
+use Rattle.machine.proofs.record.Machine.entry_in_order.Statement.{statement}
+use Rattle.machine.proofs.record.Machine.entry_in_order.Tie as tie
+
+pub entry-in-order-spec : {M : Type 1} → statement M
+entry-in-order-spec =
+    tie.close
+    (tie.spec (λ c κs. search needs) (λ c κs. search needs) (λ c κs. search needs) (λ c κs. search needs) (λ c κs. search needs) (λ c. cc))

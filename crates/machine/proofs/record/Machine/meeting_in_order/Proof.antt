@@ -1,0 +1,12 @@
+-- `meeting_in_order` meets its contract.
+use borrow.Author.Needs.{needs}
+use Rattle.machine.proofs.record.Machine.meeting_in_order.Statement.{statement}
+use Rattle.machine.proofs.record.Machine.meeting_in_order.Tie as tie
+
+pub meeting-in-order-spec : {M : Type 1} → statement M
+meeting-in-order-spec =
+    tie.close
+    (tie.spec (λ c. search needs) (λ c. search needs) (λ c. search needs) (λ c. search needs) (λ c. search needs)
+    (λ c κs. search needs) (λ c κs. search needs) (λ c. search needs)
+    (λ c. search needs) (λ c. search needs) (λ c. search needs) (λ c. search needs)
+    (λ c. rw (c .before .before .before .status .given .1, ← c .disputed .ensures, ← c .before .waiting .ensures)))

@@ -1,0 +1,48 @@
+-- `start` meets its contract.
+use Prim.Native.Nat.{ℕ, _-_, _≤_}
+use mathlib.Core.Path.{_≡_, ap, _∙_}
+use native.Mathlib.Omega.{arith}
+use borrow.Author.Needs.{needs}
+use lib.ListN.{replicate}
+use Rattle.machine.specs.Machine.{zeroThread, startStatus, start, withStatusAt}
+use Rattle.machine.specs.Types.{Machine}
+use Rattle.machine.proofs.Loops.{restated, restatedTo, restate}
+use Rattle.machine.proofs.record.Machine.start.Statement.{statement}
+use Rattle.machine.proofs.record.Machine.start.Tie as tie
+
+-- the record before any thread is started
+abbrev idle : ℕ → Machine
+idle mask = record { enabled = mask; last = 7; threads = replicate 8 zeroThread }
+
+abbrev Inv-loop : tie.InvT-loop
+Inv-loop mask machine₀ t₀ machine t = (t ≤ 8) × (machine ≡ restatedTo (startStatus mask) (idle mask) t)
+
+abbrev μ-loop : tie.MeasureT-loop
+μ-loop mask machine₀ t₀ machine t = 8 - t
+
+loop-holds : tie.Need-loop-holds Inv-loop μ-loop
+unfolding restated
+loop-holds c = (omega arith, ap (λ (m : Machine). record { enabled = c .before .args .mask; last = 7; threads = m .threads }) (c .zero .ensures))
+
+loop-again : tie.Need-loop-again Inv-loop μ-loop
+loop-again c =
+    let l = c .before .before .before .loop in
+    let mask = c .before .before .before .before .before .args .mask in (
+      omega arith,
+      c .with-status .ensures
+          ∙ ((λ j. withStatusAt (l .inv .1 j) (l .t) (c .before .start-status .ensures j)) ∙ restate (startStatus mask) (idle mask) (l .t) (omega arith)),
+    )
+
+returns : tie.Need-returns Inv-loop μ-loop
+unfolding start restated
+returns c =
+    let l = c .before .loop in
+    let mask = c .before .before .before .args .mask in
+    let e : l .t ≡ 8 = omega arith in
+    l .inv .1 ∙ ap (restatedTo (startStatus mask) (idle mask)) e
+
+pub start-spec : {M : Type 1} → statement M
+start-spec =
+    tie.close
+    (tie.spec Inv-loop μ-loop (λ c κs. search needs) loop-holds (λ c κs. search needs) (λ c κs. search needs) (λ c. omega arith)
+    (λ c. omega arith) loop-again returns)

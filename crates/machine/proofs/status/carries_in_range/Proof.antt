@@ -1,0 +1,10 @@
+-- `carries_in_range` meets its contract.
+use borrow.Author.Needs.{needs}
+use Rattle.machine.proofs.status.carries_in_range.Statement.{statement}
+use Rattle.machine.proofs.status.carries_in_range.Tie as tie
+
+pub carries-in-range-spec : {M : Type 1} → statement M
+carries-in-range-spec =
+    tie.close
+    (tie.spec (λ c. search needs) (λ c. search needs) (λ c. search needs) (λ c. search needs) (λ c. search needs)
+    (λ c. search needs) (λ c. search needs) (λ c. search needs) (λ c. cc) (λ c. cc))

@@ -1,0 +1,10 @@
+-- `waits_otherwise` meets its contract.
+use borrow.Author.Needs.{needs}
+use Rattle.machine.proofs.status.waits_otherwise.Statement.{statement}
+use Rattle.machine.proofs.status.waits_otherwise.Tie as tie
+
+pub waits-otherwise-spec : {M : Type 1} → statement M
+waits-otherwise-spec =
+    tie.close
+    (tie.spec (λ c. search needs) (λ c. search needs) (λ c. search needs) (λ c. search needs) (λ c. search needs)
+    (λ c. search needs) (λ c. search needs) (λ c. search needs) (λ c. search needs) (λ c. cc))

@@ -1,0 +1,37 @@
+-- Meeting at a barrier (document 01, "Meeting at a barrier").
+use Prim.Native.Nat.{ℕ, _+_}
+use mathlib.Core.Bool.{Bool, true, false, _||_, cond}
+use mathlib.Core.List.{map}
+use lib.Dec.{ltb, eqb}
+use Rattle.machine.specs.Machine.{withStatus, withStatusAt, trap}
+use Rattle.machine.specs.Status.{waitsAt}
+use Rattle.machine.specs.Types.{Status, Running, Waiting, Machine, Meeting}
+use Rattle.machine.specs.WellFormed.{waiting, disputed}
+
+-- "Id above 31, second value above 7, or another thread waiting there with another count: trap 5."
+-- "0 barrier: id in the first, count less one in the second."
+unfoldable pub refusesMeeting : Machine → ℕ → ℕ → ℕ → Bool
+refusesMeeting m t id second = ltb 31 id || ltb 7 second || disputed m t id (second + 1)
+
+-- "all of them are running": a status that waited there carries no id and no count any more
+abbrev pub released : ℕ → Status → Status
+released id status = cond (waitsAt id status) Running status
+
+unfoldable pub release : Machine → ℕ → Machine
+release m id =
+    record { enabled = m .enabled; last = m .last; threads = map (λ entry. withStatus entry (released id (entry .status))) (m .threads) }
+
+-- "if now as many wait at the id as the count says, all of them are running"
+unfoldable pub releaseIfMet : Machine → ℕ → ℕ → Machine
+releaseIfMet m id count = cond (eqb (waiting m id) count) (release m id) m
+
+-- "Else .. the thread waits; if now as many wait at the id as the count says, all of them are running."
+abbrev pub arrive : Machine → ℕ → ℕ → ℕ → Machine
+arrive m t id count = releaseIfMet (withStatusAt m t (Waiting id count)) id count
+
+-- a meeting of a thread with two register values, and whether it trapped
+unfoldable pub meet : Machine → ℕ → ℕ → ℕ → Meeting
+meet m t id second =
+    cond (refusesMeeting m t id second)
+    (record { trapped = true; machine = trap m t 5 })
+    (record { trapped = false; machine = arrive m t id (second + 1) })

@@ -1,0 +1,91 @@
+-- What is proved of the definitions, for other crates to cite.
+use Prim.Native.Nat.{ℕ, _<_, _≤_}
+use mathlib.Core.Bool.{true, false}
+use mathlib.Core.Logic.{_↔_}
+use mathlib.Core.Path.{_≡_}
+use lib.ListN.{length}
+use Rattle.machine.specs.Barrier.{meet}
+use Rattle.answer.specs.Answer.{given}
+use Rattle.machine.specs.Fields.{fieldsOf, threadOf}
+use Rattle.machine.specs.Machine.{statusAt, bit, trap, end, start}
+use Rattle.machine.specs.Scheduler.{runs, after, choice, withLast}
+use Rattle.machine.specs.Status.{carriesInRange}
+use Rattle.machine.specs.Types.{Idle, Trapped, Waiting, Thread, Machine, Chosen, NoneRunning, Fields}
+use Rattle.machine.specs.WellFormed.{waiting, wellFormed}
+
+-- Well-formedness.
+
+-- the conditions of document 01, one by one
+pub record WellFormed (m : Machine) : Type 0 where
+  -- "enabled mask (1..255), last thread issued (0..7), and eight thread entries"
+  pub mask-range : (1 ≤ m .enabled) × (m .enabled ≤ 255)
+  pub last-range : m .last ≤ 7
+  pub entries : length (m .threads) ≡ 8
+  -- "trapped 3 with a reason 1..6, waiting 4 with barrier id 0..31 and a count 1..8"
+  pub reason-range : (t reason : ℕ) → statusAt m t ≡ Trapped reason → (1 ≤ reason) × (reason ≤ 6)
+  pub waiting-range : (t id count : ℕ) → statusAt m t ≡ Waiting id count → (id ≤ 31) × (1 ≤ count) × (count ≤ 8)
+  -- "a thread is idle exactly if its enabled bit is 0"
+  pub idle : (t : ℕ) → t < 8 → (statusAt m t ≡ Idle) ↔ (bit (m .enabled) t ≡ 0)
+  -- "all threads waiting at one id name the same count"
+  pub agreed : (t u id c d : ℕ) → statusAt m t ≡ Waiting id c → statusAt m u ≡ Waiting id d → c ≡ d
+  -- "and fewer wait there than that count"
+  pub fewer : (t id count : ℕ) → statusAt m t ≡ Waiting id count → waiting m id < count
+
+-- the test passes exactly if they hold
+abbrev pub Tested : Type 0
+Tested = (m : Machine) → (wellFormed m ≡ true) ↔ WellFormed m
+
+-- a running thread is one of the eight, and enabled
+abbrev pub RunningEnabled : Type 0
+RunningEnabled = (m : Machine) (t : ℕ) → wellFormed m ≡ true → runs m t ≡ true → (t < 8) × (bit (m .enabled) t ≡ 1)
+
+-- start makes a well-formed record of a mask 1..255, which is its enabled mask
+abbrev pub Started : Type 0
+Started = (mask : ℕ) → 1 ≤ mask → mask ≤ 255 → (wellFormed (start mask) ≡ true) × (start mask .enabled ≡ mask)
+
+-- The scheduler.
+
+-- thread t runs, at distance d after "last", and no thread at a shorter distance does
+pub record FirstAfterLast (m : Machine) (t d : ℕ) : Type 0 where
+  pub low : 1 ≤ d
+  pub high : d ≤ 8
+  pub place : t ≡ after m d
+  pub running : runs m t ≡ true
+  pub nearest : (k : ℕ) → 1 ≤ k → k < d → runs m (after m k) ≡ false
+
+-- "the first running thread after "last"" is chosen
+abbrev pub Chooses : Type 0
+Chooses = (m : Machine) (t d : ℕ) → (choice m ≡ Chosen t d) ↔ FirstAfterLast m t d
+
+-- and none exactly if no thread runs
+abbrev pub ChoosesNone : Type 0
+ChoosesNone = (m : Machine) → (choice m ≡ NoneRunning) ↔ ((t : ℕ) → t < 8 → runs m t ≡ false)
+
+-- a record stays well formed whichever thread is "last"
+abbrev pub Issued : Type 0
+Issued = (m : Machine) (t : ℕ) → t < 8 → wellFormed m ≡ true → wellFormed (withLast m t) ≡ true
+
+-- What the issue of thread t makes of a record m.
+
+pub record Sound (m : Machine) (t : ℕ) (n : Machine) : Type 0 where
+  pub enabled : n .enabled ≡ m .enabled
+  pub last : n .last ≡ m .last
+  -- who runs and is not issued stays running
+  pub running : (u : ℕ) → (u ≡ t → ⊥) → runs m u ≡ true → runs n u ≡ true
+  -- a well-formed record stays so, if the thread was running
+  pub well-formed : wellFormed m ≡ true → runs m t ≡ true → wellFormed n ≡ true
+
+abbrev pub Traps : Type 0
+Traps = (m : Machine) (t reason : ℕ) → 1 ≤ reason → reason ≤ 6 → Sound m t (trap m t reason)
+
+abbrev pub Ends : Type 0
+Ends = (m : Machine) (t : ℕ) → Sound m t (end m t)
+
+abbrev pub Meets : Type 0
+Meets = (m : Machine) (t id second : ℕ) → Sound m t (meet m t id second .machine)
+
+-- The numbers of an entry.
+
+-- numbers are read as an entry exactly if they are its own, and in range
+abbrev pub Exact : Type 0
+Exact = (f : Fields) (e : Thread) → (threadOf f ≡ given e) ↔ ((fieldsOf e ≡ f) × (carriesInRange (e .status) ≡ true))

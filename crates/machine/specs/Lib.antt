@@ -1,0 +1,11 @@
+-- The machine record: what the contracts cite.
+pub mod Types
+pub mod Search
+pub mod Status
+pub mod Machine
+pub mod WellFormed
+pub mod Scheduler
+pub mod Barrier
+pub mod Answer
+pub mod Fields
+pub mod Claims

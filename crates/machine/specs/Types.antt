@@ -1,0 +1,12 @@
+-- The types that the code declares, under one roof.
+pub use Rattle.machine.specs.declared.status.Status.{Status}
+pub use Rattle.machine.specs.declared.status.Status.the-variants.{Idle, Running, Ended, Trapped, Waiting}
+pub use Rattle.machine.specs.declared.status.Thread.{Thread}
+pub use Rattle.machine.specs.declared.record.Machine.{Machine}
+pub use Rattle.machine.specs.declared.scheduler.Choice.{Choice}
+pub use Rattle.machine.specs.declared.scheduler.Choice.the-variants.{Chosen, NoneRunning}
+pub use Rattle.machine.specs.declared.scheduler.Turn.{Turn}
+pub use Rattle.machine.specs.declared.barrier.Meeting.{Meeting}
+pub use Rattle.machine.specs.declared.fields.Fields.{Fields}
+pub use Rattle.machine.specs.declared.fields.EntryReading.{EntryReading}
+pub use Rattle.machine.specs.declared.fields.EntryReading.the-variants.{Entry, Refused}

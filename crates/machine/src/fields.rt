@@ -1,0 +1,85 @@
+// An entry as the numbers of the saved image, both ways.
+ghost use mathlib.Core.Option.{some};
+ghost use mathlib.Core.Path.{_≡_};
+ghost use Rattle.machine.specs.Answer.{reading};
+ghost use Rattle.machine.specs.Fields.{fields, sameFields, fieldsOf, accepted, threadOf};
+use crate::status::Status;
+use crate::status::Thread;
+use crate::status::carries_in_range;
+
+// The numbers of an entry, 0 where its status does not carry them.
+pub struct Fields {
+    pub status: u8,
+    pub reason: u8,
+    pub id: u8,
+    pub count: u8,
+}
+
+// What an entry's numbers are read as.
+pub enum EntryReading {
+    Entry(Thread),
+    Refused,
+}
+
+// The numbers by their places.
+fn numbers(status: u8, reason: u8, id: u8, count: u8) -> Fields
+    ensures { λ r. ⌜ r ≡ fields status reason id count ⌝ }
+{
+    Fields {
+        status,
+        reason,
+        id,
+        count,
+    }
+}
+
+// Whether the numbers are the same.
+fn same_fields(a: Fields, b: Fields) -> bool
+    ensures { λ r. ⌜ r ≡ sameFields a b ⌝ }
+{
+    (a.status == b.status) & (a.reason == b.reason) & (a.id == b.id) & (a.count == b.count)
+}
+
+// The entry with a status, if the numbers are its own.
+fn accept(status: Status, fields: Fields) -> EntryReading
+    ensures { λ r. ⌜ reading r ≡ accepted fields (some status) ⌝ }
+{
+    let thread = Thread { status };
+    let same = same_fields(thread.fields(), fields);
+    let in_range = carries_in_range(status);
+    if same & in_range {
+        return EntryReading::Entry(thread);
+    }
+    EntryReading::Refused
+}
+
+impl Thread {
+    // The numbers of an entry.
+    pub fn fields(self) -> Fields
+        ensures { λ r. ⌜ r ≡ fieldsOf self ⌝ }
+    {
+        let status = self.status;
+        match status {
+            Status::Idle => numbers(0, 0, 0, 0),
+            Status::Running => numbers(1, 0, 0, 0),
+            Status::Ended => numbers(2, 0, 0, 0),
+            Status::Trapped(reason) => numbers(3, reason, 0, 0),
+            Status::Waiting(id, count) => numbers(4, 0, id, count),
+        }
+    }
+
+    // The entry that has these numbers, if one has.
+    pub fn of_fields(fields: Fields) -> EntryReading
+        ensures { λ r. ⌜ reading r ≡ threadOf fields ⌝ }
+    {
+        let number = fields.status;
+        match number {
+            0 => accept(Status::Idle, fields),
+            1 => accept(Status::Running, fields),
+            2 => accept(Status::Ended, fields),
+            3 => accept(Status::Trapped(fields.reason), fields),
+            4 => accept(Status::Waiting(fields.id, fields.count), fields),
+            _ => EntryReading::Refused,
+        }
+    }
+}

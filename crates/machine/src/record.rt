@@ -1,0 +1,99 @@
+// The machine record, and how one thread's entry changes.
+ghost use Prim.Native.Nat.{_<_};
+ghost use mathlib.Core.Path.{_≡_};
+ghost use lib.Dec.{eqb};
+ghost use Rattle.machine.specs.Machine.{statusAt, withStatusAt, bit, zeroed, startStatus, start, trap, end};
+use crate::status::Status;
+use crate::status::Thread;
+
+// A bit of `enabled` for each thread, the thread issued last, and an entry for each thread.
+pub struct Machine {
+    pub enabled: u8,
+    pub last: u8,
+    pub threads: [Thread; 8],
+}
+
+// Whether a thread's bit in a mask is 0.
+pub fn is_disabled(mask: u8, thread: usize) -> bool
+    requires { ⌜ thread < 8 ⌝ }
+    ensures { λ r. ⌜ r ≡ eqb (bit mask thread) 0 ⌝ }
+{
+    (mask >> thread) % 2 == 0
+}
+
+// The status that a thread starts with.
+fn start_status(mask: u8, thread: usize) -> Status
+    requires { ⌜ thread < 8 ⌝ }
+    ensures { λ r. ⌜ r ≡ startStatus mask thread ⌝ }
+{
+    if is_disabled(mask, thread) {
+        return Status::Idle;
+    }
+    Status::Running
+}
+
+impl Machine {
+    // The record with every number 0.
+    pub fn zero() -> Machine
+        ensures { λ r. ⌜ r ≡ zeroed ⌝ }
+    {
+        Machine {
+            enabled: 0,
+            last: 0,
+            threads: [Thread {
+                status: Status::Idle,
+            }; 8],
+        }
+    }
+
+    // The status of a thread; idle where there is no such thread.
+    pub fn status_at(self, thread: usize) -> Status
+        ensures { λ r. ⌜ r ≡ statusAt self thread ⌝ }
+    {
+        if 8 <= thread {
+            return Status::Idle;
+        }
+        let entry = self.threads[thread];
+        entry.status
+    }
+
+    // The record with another status of one thread.
+    pub(crate) fn with_status(mut self, thread: usize, status: Status) -> Machine
+        ensures { λ r. ⌜ r ≡ withStatusAt self thread status ⌝ }
+    {
+        if 8 <= thread {
+            return self;
+        }
+        let entry = self.threads[thread];
+        let next = entry.with_status(status);
+        self.threads[thread] = next;
+        self
+    }
+
+    // The record that a mask starts with: its threads running, and 7 last.
+    pub fn start(mask: u8) -> Machine
+        ensures { λ r. ⌜ r ≡ start mask ⌝ }
+    {
+        let mut machine = Machine::zero();
+        machine.enabled = mask;
+        machine.last = 7;
+        for t in 0..8 {
+            machine = machine.with_status(t, start_status(mask, t));
+        }
+        machine
+    }
+
+    // The thread trapped with a reason. It is "last" already: `choose` made it so.
+    pub fn trap(self, thread: usize, reason: u8) -> Machine
+        ensures { λ r. ⌜ r ≡ trap self thread reason ⌝ }
+    {
+        self.with_status(thread, Status::Trapped(reason))
+    }
+
+    // The thread ended.
+    pub fn end(self, thread: usize) -> Machine
+        ensures { λ r. ⌜ r ≡ end self thread ⌝ }
+    {
+        self.with_status(thread, Status::Ended)
+    }
+}

@@ -1,0 +1,73 @@
+// The scheduler: which thread is issued next.
+ghost use mathlib.Core.Path.{_≡_};
+ghost use Rattle.machine.specs.Machine.{threadNumbers};
+ghost use Rattle.machine.specs.Scheduler.{runs, choose, someWaits};
+ghost use Rattle.machine.specs.Search.{bits};
+use crate::record::Machine;
+use crate::status::is_running;
+use crate::status::is_waiting;
+
+// The thread to issue, and its distance from "last", 1 to 8.
+pub enum Choice {
+    Chosen { thread: usize, distance: usize },
+    NoneRunning,
+}
+
+// A choice, with the record in which the chosen thread is "last".
+pub struct Turn {
+    pub choice: Choice,
+    pub machine: Machine,
+}
+
+impl Machine {
+    // A mask of the running threads.
+    fn running_mask(self) -> u32
+        ensures { λ r. ⌜ r ≡ bits (runs self) threadNumbers ⌝ }
+    {
+        let mut mask: u32 = 0;
+        for passed in 0..8 {
+            let status = self.status_at(7 - passed);
+            mask = 2 * mask;
+            if is_running(status) {
+                mask += 1;
+            }
+        }
+        mask
+    }
+
+    // The first running thread after "last", going round upwards.
+    pub fn choose(mut self) -> Turn
+        ensures { λ r. ⌜ r ≡ choose self ⌝ }
+    {
+        let mask = self.running_mask();
+        if mask == 0 {
+            return Turn {
+                choice: Choice::NoneRunning,
+                machine: self,
+            };
+        }
+        // The mask stands here twice, so that its bits go round: bit k is that of the thread at distance k + 1.
+        let last = self.last % 8;
+        let ahead = (mask * 257) >> (last + 1);
+        let distance = u32::trailing_zeros(ahead) as usize + 1;
+        let thread = (last as usize + distance) % 8;
+        self.last = thread as u8;
+        Turn {
+            choice: Choice::Chosen { thread, distance },
+            machine: self,
+        }
+    }
+
+    // Whether a thread waits: what tells a stuck machine from a stopped one.
+    pub fn some_waits(self) -> bool
+        ensures { λ r. ⌜ r ≡ someWaits self ⌝ }
+    {
+        for thread in 0..8 {
+            let status = self.status_at(thread);
+            if is_waiting(status) {
+                return true;
+            }
+        }
+        false
+    }
+}

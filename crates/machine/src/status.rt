@@ -1,0 +1,101 @@
+// A thread's entry: its status, with what that status carries.
+ghost use mathlib.Core.Path.{_≡_};
+ghost use Rattle.machine.specs.Machine.{withStatus};
+ghost use Rattle.machine.specs.Status.{isIdle, isRunning, isWaiting, waitsAt, waitsOtherwise, carriesInRange};
+
+// Trapped carries a reason; Waiting carries a barrier id and a count.
+pub enum Status {
+    Idle,
+    Running,
+    Ended,
+    Trapped(u8),
+    Waiting(u8, u8),
+}
+
+pub struct Thread {
+    pub status: Status,
+}
+
+pub fn is_idle(status: Status) -> bool
+    ensures { λ r. ⌜ r ≡ isIdle status ⌝ }
+{
+    match status {
+        Status::Idle => true,
+        Status::Running => false,
+        Status::Ended => false,
+        Status::Trapped(_) => false,
+        Status::Waiting(_, _) => false,
+    }
+}
+
+pub fn is_running(status: Status) -> bool
+    ensures { λ r. ⌜ r ≡ isRunning status ⌝ }
+{
+    match status {
+        Status::Idle => false,
+        Status::Running => true,
+        Status::Ended => false,
+        Status::Trapped(_) => false,
+        Status::Waiting(_, _) => false,
+    }
+}
+
+pub fn is_waiting(status: Status) -> bool
+    ensures { λ r. ⌜ r ≡ isWaiting status ⌝ }
+{
+    match status {
+        Status::Idle => false,
+        Status::Running => false,
+        Status::Ended => false,
+        Status::Trapped(_) => false,
+        Status::Waiting(_, _) => true,
+    }
+}
+
+// Whether it waits at a barrier.
+pub fn waits_at(status: Status, id: u8) -> bool
+    ensures { λ r. ⌜ r ≡ waitsAt id status ⌝ }
+{
+    match status {
+        Status::Idle => false,
+        Status::Running => false,
+        Status::Ended => false,
+        Status::Trapped(_) => false,
+        Status::Waiting(i, _) => i == id,
+    }
+}
+
+// Whether it waits at a barrier with another count.
+pub fn waits_otherwise(status: Status, id: u8, count: u8) -> bool
+    ensures { λ r. ⌜ r ≡ waitsOtherwise id count status ⌝ }
+{
+    match status {
+        Status::Idle => false,
+        Status::Running => false,
+        Status::Ended => false,
+        Status::Trapped(_) => false,
+        Status::Waiting(i, c) => (i == id) & (c != count),
+    }
+}
+
+// Whether the numbers that it carries are in range.
+pub fn carries_in_range(status: Status) -> bool
+    ensures { λ r. ⌜ r ≡ carriesInRange status ⌝ }
+{
+    match status {
+        Status::Idle => true,
+        Status::Running => true,
+        Status::Ended => true,
+        Status::Trapped(reason) => (1 <= reason) & (reason <= 6),
+        Status::Waiting(id, count) => (id <= 31) & (1 <= count) & (count <= 8),
+    }
+}
+
+impl Thread {
+    // The entry with another status; all else that it holds stays.
+    pub(crate) fn with_status(self, status: Status) -> Thread
+        ensures { λ r. ⌜ r ≡ withStatus self status ⌝ }
+    {
+        Thread { status }
+    }
+}

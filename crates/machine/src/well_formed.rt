@@ -1,0 +1,66 @@
+// When a record is well formed.
+ghost use Prim.Native.Nat.{_<_};
+ghost use mathlib.Core.Bool.{_&&_, not};
+ghost use mathlib.Core.Path.{_≡_};
+ghost use lib.Dec.{ltb};
+ghost use Rattle.machine.specs.Machine.{statusAt};
+ghost use Rattle.machine.specs.Status.{carriesInRange, ifWaiting};
+ghost use Rattle.machine.specs.WellFormed.{waiting, disputed, idleIfDisabled, countAgreed, fewerWait, wellFormed};
+use crate::record::Machine;
+use crate::record::is_disabled;
+use crate::status::Status;
+use crate::status::carries_in_range;
+use crate::status::is_idle;
+
+impl Machine {
+    // Of a waiting thread: all that wait with it name its count, and they are fewer.
+    fn meeting_in_order(self, thread: usize, status: Status) -> bool
+        ensures { λ r. ⌜ r ≡ (ifWaiting status (λ id count. not (disputed self thread id count)) && ifWaiting status (λ id count. ltb (waiting self id) count)) ⌝ }
+    {
+        match status {
+            Status::Idle => true,
+            Status::Running => true,
+            Status::Ended => true,
+            Status::Trapped(_) => true,
+            Status::Waiting(id, count) => {
+                let n = self.waiting(id);
+                let other = self.disputed(thread, id, count);
+                !other & (n < count as usize)
+            }
+        }
+    }
+
+    // Whether one thread's entry is as it should be.
+    fn entry_in_order(self, thread: usize) -> bool
+        requires { ⌜ thread < 8 ⌝ }
+        ensures { λ r. ⌜ r ≡ (carriesInRange (statusAt self thread) && idleIfDisabled self thread && (countAgreed self thread && fewerWait self thread)) ⌝ }
+    {
+        let status = self.status_at(thread);
+        let off = is_disabled(self.enabled, thread);
+        let idle = is_idle(status);
+        let ranges = carries_in_range(status);
+        let meeting = self.meeting_in_order(thread, status);
+        ranges & (idle == off) & meeting
+    }
+
+    // Whether the record is well formed, with every number in range.
+    pub fn well_formed(self) -> bool
+        ensures { λ r. ⌜ r ≡ wellFormed self ⌝ }
+    {
+        let enabled = self.enabled;
+        let last = self.last;
+        if enabled == 0 {
+            return false;
+        }
+        if 7 < last {
+            return false;
+        }
+        for thread in 0..8 {
+            let fine = self.entry_in_order(thread);
+            if !fine {
+                return false;
+            }
+        }
+        true
+    }
+}

@@ -1,0 +1,18 @@
+-- `bytes::read8` meets its contract.
+use native.Mathlib.Nat.{add-zero}
+use native.Mathlib.Omega.{arith}
+use borrow.Author.Needs.{needs}
+use Rattle.memory.specs.Bytes.{numberAt}
+use Rattle.memory.proofs.bytes.read8.Statement.{statement}
+use Rattle.memory.proofs.bytes.read8.Tie as tie
+
+returns : tie.Need-returns
+unfolding numberAt
+returns c = simp add-zero (omega arith)
+
+pub read8-spec : {M : Type 1} → statement M
+read8-spec =
+    tie.close
+    (tie.spec
+    (λ c κs. search needs)
+    returns)

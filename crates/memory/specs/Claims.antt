@@ -1,0 +1,33 @@
+-- What is proved of the definitions.
+use Prim.Native.Nat.{ℕ, _-_, _<_, _^_}
+use mathlib.Core.Path.{_≡_}
+use mathlib.Core.List.{List, [], _∷_}
+use lib.IntN.{pos, subℕ, _+ℤ_}
+use Rattle.alu.specs.Word.{value}
+use Rattle.memory.specs.Attempt.{Attempt, done, trap, misaligned, outside}
+use Rattle.memory.specs.Place.{lifted, place}
+
+-- "Address is base, read unsigned, plus offset and does not wrap.": the address, less what it is held with, is the signed sum.
+abbrev pub AddressIsSum : Type 0
+AddressIsSum = (base offset : ℕ) → base < 2 ^ 32 → offset < 2 ^ 32 → subℕ (lifted base offset) (2 ^ 32) ≡ pos base +ℤ value 32 offset
+
+-- "Memory 64, load32: address 60 good, 62 reason 1, 64 and -4 reason 2, base 0xFFFFFFFC plus 4 reason 2."
+pub record Row : Type 0 where
+  pub base : ℕ
+  pub offset : ℕ
+  pub place : Attempt ℕ
+
+abbrev row : ℕ → ℕ → Attempt ℕ → Row
+row base offset place = record { base = base; offset = offset; place = place }
+
+abbrev pub figures : List Row
+figures =
+    row 60 0 (done 60) ∷ row 62 0 (trap misaligned) ∷ row 64 0 (trap outside) ∷ row 0 (2 ^ 32 - 4) (trap outside) ∷ row 0 (2 ^ 32 - 2) (trap misaligned)
+    ∷ row 0xFFFFFFFC 4 (trap outside) ∷ []
+
+abbrev pub All : List Row → Type 0
+All [] = Unit {0}
+All (r ∷ rs) = (place 4 4 64 (lifted (r .base) (r .offset)) ≡ r .place) × All rs
+
+abbrev pub Figures : Type 0
+Figures = All figures

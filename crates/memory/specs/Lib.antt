@@ -1,0 +1,7 @@
+-- Loads and stores on data memory: what the contracts cite.
+pub mod Types
+pub mod Attempt
+pub mod Place
+pub mod Bytes
+pub mod Operation
+pub mod Claims
