@@ -1,12 +1,11 @@
 -- Quotients and remainders of what lies below a power of two: the arithmetic shift of a negative word.
 use mathlib.Core.Path.{_≡_, sym, ap, _∙_}
-use mathlib.Core.Bool.{Bool, true, false, cond}
 use Prim.Native.Nat.{ℕ, _+_, _-_, _*_, _/_, _%_, _^_, _<_, _≤_}
 use native.Mathlib.Nat.{add-mul, one-mul, div-add-mod', div-lt-iff-lt-mul, mod-lt, mod-eq-of-lt}
 use native.Mathlib.Omega.{arith}
 use lib.Arith.{digits-div, digits-mod}
 use lib.Pow.{pow-pos, pow-add, shr-le}
-use Rattle.alu.specs.Word.{negative, extended}
+use Rattle.alu.specs.Word.{negative}
 
 pub complement-div : (m p a : ℕ) → 0 < p → a < m * p → (m * p - 1 - a) / p ≡ m - 1 - a / p
 complement-div m p a hp h =

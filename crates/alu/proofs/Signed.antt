@@ -11,10 +11,9 @@ use lib.IntN.{pos, negsuc, negℤ, _*ℤ_}
 use lib.Pow.{pow-pos, pow-mono, pow-add, shr-le}
 use lib.Signed.{ltZ, leZ, shrZ}
 use borrow.Author.Tests.{leb-true, leb-false, le-leb, lt-leb, lt-ltb}
-use Rattle.alu.specs.Types.{Mulhi, Ashr}
 use Rattle.alu.specs.Word.{negative, extended, rank, value}
-use Rattle.alu.specs.Binary.{binary, distance}
-use Rattle.alu.specs.Claims.{MulhiIsSigned, AshrIsSigned, Sext8IsSigned, Sext16IsSigned, ComparesAreSigned, SignedOrder}
+use Rattle.alu.specs.Binary.{distance}
+use Rattle.alu.specs.Claims.{MulhiIsSigned, AshrIsSigned, Sext8IsSigned, Sext16IsSigned, SignedOrder}
 use Rattle.alu.proofs.Complement.{complement-div, ashr-negative, ashr-positive}
 
 -- what a number of `bits` bits stands for, by its sign

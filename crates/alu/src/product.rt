@@ -1,6 +1,5 @@
 // Products of two words: the low half, and the high half signed and unsigned.
 ghost use mathlib.Core.Path.{_≡_};
-ghost use Prim.Native.Nat.{_-_, _^_};
 ghost use mathlib.Core.Bool.{cond};
 ghost use Rattle.alu.specs.Types.{Mullo, Mulhi, Mulhu};
 ghost use Rattle.alu.specs.Word.{negative};

@@ -1,15 +1,22 @@
 -- Proofs of the claims.
 use mathlib.Core.Path.{_≡_, refl, sym, ap, _∙_}
-use mathlib.Core.Bool.{Bool, true, false}
-use Prim.Native.Nat.{ℕ, suc, _+_, _-_, _^_, _≤_, _<_}
+use mathlib.Core.Bool.{Bool, true, false, cond}
+use mathlib.Core.List.{List}
+use Prim.Native.Nat.{ℕ, zero, suc, _+_, _-_, _*_, _/_, _%_, _^_, _≤_, _<_}
 use native.Mathlib.Omega.{arith}
 use lib.Dec.{leb, ltb}
-use lib.IntN.{ℤ, pos, negsuc, subℕ, _+ℤ_}
+use lib.IntN.{pos, negsuc, subℕ, _+ℤ_}
+use lib.ListN.{length, set, length-set}
 use borrow.Author.Tests.{leb-true, leb-false, lt-ltb, le-ltb, ltb-true, ltb-false}
 use Rattle.alu.specs.Word.{value}
+use Rattle.alu.specs.Lanes.{lane, isOn}
+use Rattle.alu.proofs.Filling.{tab-length}
 use Rattle.alu.proofs.Signed.{value-positive, value-negative}
 use Rattle.memory.specs.Place.{lifted, place}
-use Rattle.memory.specs.Claims.{AddressIsSum, Figures}
+use Rattle.memory.specs.Attempt.{Attempt, done, trap}
+use Rattle.memory.specs.Bytes.{withNumber}
+use Rattle.memory.specs.Operation.{bytesStored, scalarPlace, vectorPlace, changed, store, each, withLanes, storeLanes, lanesAt, gathered, loadLanes}
+use Rattle.memory.specs.Claims.{AddressIsSum, Figures, Lengths}
 
 -- two differences that are the same
 same-difference : (a b c d : ℕ) → a + d ≡ c + b → subℕ a b ≡ subℕ c d
@@ -38,3 +45,36 @@ address-is-sum base offset hb ho = go (leb (2 ^ 31) offset) refl
 pub figures-hold : Figures
 unfolding place
 figures-hold = (refl, (refl, (refl, (refl, (refl, (refl, tt))))))
+
+-- ---- lengths
+
+kept-number : (n : ℕ) (m : List ℕ) (a w : ℕ) → length (withNumber n m a w) ≡ length m
+unfolding withNumber
+kept-number zero m a w = refl
+kept-number (suc n) m a w = kept-number n (set m a (w % 2 ^ 8)) (a + 1) (w / 2 ^ 8) ∙ length-set m a (w % 2 ^ 8)
+
+kept-each : (n : ℕ) (g : ℕ → List ℕ → List ℕ) (m : List ℕ) → ((j : ℕ) (l : List ℕ) → length (g j l) ≡ length l) → length (each n g m) ≡ length m
+unfolding each
+kept-each zero g m h = refl
+kept-each (suc n) g m h = h n (each n g m) ∙ kept-each n g m h
+
+kept-if : (t : Bool) (l m : List ℕ) → length l ≡ length m → length (cond t l m) ≡ length m
+kept-if true l m h = h
+kept-if false l m h = refl
+
+kept-changed : (p : Attempt ℕ) (m : List ℕ) (f : ℕ → List ℕ) → ((a : ℕ) → length (f a) ≡ length m) → length (changed p m f .memory) ≡ length m
+kept-changed (done a) m f h = h a
+kept-changed (trap reason) m f h = refl
+
+sixteen : (p : Attempt ℕ) (m : List ℕ) → length (gathered p m .lanes) ≡ 16
+unfolding lanesAt
+sixteen (done a) m = tab-length 16 _
+sixteen (trap reason) m = tab-length 16 _
+
+pub lengths : Lengths
+unfolding store storeLanes withLanes loadLanes
+lengths = record {
+  of-store = λ op m base offset value. kept-changed (scalarPlace (bytesStored op) m base offset) m _ (λ a. kept-number (bytesStored op) m a value);
+  of-store-lanes = λ m base offset mask v. kept-changed (vectorPlace m base offset) m _ (λ a. kept-each 16 _ m (λ j l. kept-if (isOn mask j) _ l (kept-number 4 l (a + 4 * j) (lane v j))));
+  of-load-lanes = λ m base offset. sixteen (vectorPlace m base offset) m;
+}

@@ -3,9 +3,12 @@ use Prim.Native.Nat.{ℕ, _-_, _<_, _^_}
 use mathlib.Core.Path.{_≡_}
 use mathlib.Core.List.{List, [], _∷_}
 use lib.IntN.{pos, subℕ, _+ℤ_}
+use lib.ListN.{length}
 use Rattle.alu.specs.Word.{value}
+use Rattle.memory.specs.Types.{Load32, StoreOp}
 use Rattle.memory.specs.Attempt.{Attempt, done, trap, misaligned, outside}
 use Rattle.memory.specs.Place.{lifted, place}
+use Rattle.memory.specs.Operation.{bytesLoaded, store, storeLanes, loadLanes}
 
 -- "Address is base, read unsigned, plus offset and does not wrap.": the address, less what it is held with, is the signed sum.
 abbrev pub AddressIsSum : Type 0
@@ -27,7 +30,13 @@ figures =
 
 abbrev pub All : List Row → Type 0
 All [] = Unit {0}
-All (r ∷ rs) = (place 4 4 64 (lifted (r .base) (r .offset)) ≡ r .place) × All rs
+All (r ∷ rs) = (place (bytesLoaded Load32) (bytesLoaded Load32) 64 (lifted (r .base) (r .offset)) ≡ r .place) × All rs
 
 abbrev pub Figures : Type 0
 Figures = All figures
+
+-- a store changes no length, and a vector load gives sixteen lanes
+pub record Lengths : Type 0 where
+  pub of-store : (op : StoreOp) (m : List ℕ) (base offset value : ℕ) → length (store op m base offset value .memory) ≡ length m
+  pub of-store-lanes : (m : List ℕ) (base offset mask : ℕ) (v : List ℕ) → length (storeLanes m base offset mask v .memory) ≡ length m
+  pub of-load-lanes : (m : List ℕ) (base offset : ℕ) → length (loadLanes m base offset .lanes) ≡ 16

@@ -2,8 +2,7 @@
 use mathlib.Core.Path.{refl}
 use Prim.Native.Nat.{_-_}
 use borrow.Author.Needs.{needs}
-use mathlib.Core.Bool.{Bool, cond}
-use mathlib.Core.Path.{ap, _∙_}
+use mathlib.Core.Bool.{cond}
 use Rattle.alu.specs.Lanes.{lane, isOn, blended}
 use Rattle.alu.proofs.Filling.{Filling, start, more, whole}
 use Rattle.alu.proofs.lanes.blend.Statement.{statement}
@@ -16,7 +15,7 @@ abbrev μ-loop : tie.MeasureT-loop
 μ-loop mask new old v₀ j₀ v j = 16 - j
 
 loop-again : tie.Need-loop-again Inv-loop μ-loop
-loop-again c = more (c .before .before .before .loop .inv) (search needs) (c .choose .ensures ∙ ap (λ (t : Bool). cond t (lane (c .before .before .before .before .args .t2) (c .before .before .before .loop .j)) (lane (c .before .before .before .before .args .t3) (c .before .before .before .loop .j))) (c .before .is-on .ensures))
+loop-again c = more (c .before .before .before .loop .inv) (search needs) (rw (c .before .is-on .ensures) at (c .choose .ensures))
 
 returns : tie.Need-returns Inv-loop μ-loop
 unfolding blended

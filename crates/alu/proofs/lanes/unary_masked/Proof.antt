@@ -1,7 +1,4 @@
 -- `lanes::unary_masked` meets its contract.
-use mathlib.Core.Path.{ap, _∙_}
-use mathlib.Core.List.{List}
-use Prim.Native.Nat.{ℕ}
 use borrow.Author.Needs.{needs}
 use Rattle.alu.proofs.lanes.unary_masked.Statement.{statement}
 use Rattle.alu.proofs.lanes.unary_masked.Tie as tie

@@ -3,7 +3,7 @@ use Prim.Native.Nat.{_-_}
 use borrow.Author.Needs.{needs}
 use Rattle.alu.specs.Compare.{compare}
 use Rattle.alu.specs.Lanes.{lane}
-use Rattle.alu.specs.Outcome.{answersOf, outcomesOf}
+use Rattle.alu.specs.Outcome.{answersOf}
 use Rattle.alu.proofs.Flags.{Collecting, start, more, whole}
 use Rattle.alu.proofs.outcome.answers.Statement.{statement}
 use Rattle.alu.proofs.outcome.answers.Tie as tie

@@ -1,7 +1,5 @@
 -- `outcome::outcomes_of` meets its contract.
-use mathlib.Core.Path.{ap, _∙_}
 use borrow.Author.Needs.{needs}
-use Rattle.alu.specs.Outcome.{flagsOf}
 use Rattle.alu.proofs.outcome.outcomes_of.Statement.{statement}
 use Rattle.alu.proofs.outcome.outcomes_of.Tie as tie
 

@@ -1,6 +1,5 @@
 -- `lanes::write_lanes` meets its contract: step j stores lane j, if it is on.
-use mathlib.Core.Path.{ap, _∙_}
-use mathlib.Core.Bool.{Bool, cond}
+use mathlib.Core.Bool.{cond}
 use Prim.Native.Nat.{_+_, _-_, _*_}
 use borrow.Author.Needs.{needs}
 use Rattle.alu.specs.Lanes.{lane, isOn}
