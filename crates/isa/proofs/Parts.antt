@@ -1,12 +1,12 @@
 -- A word and its parts: a word is put together again from its parts, and has the parts that it was put together from, for any layout without gaps.
-use Prim.Native.Nat.{ℕ, suc, _+_, _-_, _*_, _/_, _%_, _^_, _<_, _≤_}
-use mathlib.Core.Bool.{Bool, true, false, _&&_}
+use Prim.Native.Nat.{ℕ, suc, _+_, _*_, _/_, _%_, _^_, _<_, _≤_}
+use mathlib.Core.Bool.{Bool, true, _&&_}
 use mathlib.Core.List.{List, [], _∷_}
 use mathlib.Core.Path.{_≡_, refl, ap, sym}
 use native.Mathlib.Nat.{mod-lt, mod-one, mul-assoc, add-mul, add-assoc, suc-inj}
 use native.Mathlib.Omega.{arith}
 use lib.Arith.{digits-lt}
-use lib.Dec.{eqb, ltb, leb}
+use lib.Dec.{eqb, leb}
 use lib.ListN.{length}
 use lib.Pow.{pow-pos, pow-add, mod-pow-add, high, low}
 use borrow.Author.Tests.{eqb-true, leb-true, ltb-true, lt-ltb}

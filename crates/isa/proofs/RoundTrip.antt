@@ -1,13 +1,13 @@
 -- A word reads as an instruction exactly if that instruction writes that word.
 use Prim.Native.Nat.{ℕ, _-_, _^_, _<_}
-use mathlib.Core.Bool.{Bool, true, false, _&&_, cond}
-use mathlib.Core.List.{List, [], _∷_}
+use mathlib.Core.Bool.{Bool, true, false, cond}
+use mathlib.Core.List.{[], _∷_}
 use mathlib.Core.Logic.{_⊎_, inl, inr, ⊎-elim}
-use mathlib.Core.Path.{_≡_, refl, _∙_, sym}
+use mathlib.Core.Path.{_≡_, refl, _∙_}
 use native.Mathlib.Omega.{arith}
 use lib.Dec.{eqb}
-use borrow.Author.Tests.{eqb-true, eqb-false, eq-eqb, ne-eqb}
-use Rattle.isa.proofs.Answers.{not-given, accepted-is, accept, accept-one, listed-is, Laid, laid-is, lay}
+use borrow.Author.Tests.{eqb-true, eqb-false}
+use Rattle.isa.proofs.Answers.{not-given, accepted-is, accept, accept-one, listed-is, laid-is, lay}
 use Rattle.isa.proofs.Both.{each, and-left, and-right, and-both}
 use Rattle.isa.proofs.Formats.{is-R, is-I, is-Movei, is-J, is-C, is-M}
 use Rattle.isa.proofs.Lookup.{found}
@@ -16,7 +16,7 @@ use Rattle.isa.proofs.Tables.{finds-R, finds-Movei, finds-J, finds-C, f
 use Rattle.answer.specs.Answer.{Answer, given, refused, undefined, not-fitted}
 use Rattle.isa.specs.Claims.{Exact, Apart}
 use Rattle.isa.specs.Layout.{bits, layoutR, layoutI, layoutMovei, layoutJ, layoutC, layoutM, cut, signed}
-use Rattle.isa.specs.Read.{read, readR, readI, readMovei, readJ, readC, readM, asR, asI, asMovei, asJ, asC, asM, accepted, listed}
+use Rattle.isa.specs.Read.{read, readR, readI, readMovei, readJ, readC, readM, asR, asI, asMovei, asJ, asC, asM, listed}
 use Rattle.isa.specs.Rule.{allowsR, allowsI, allowsMovei, allowsJ, allowsC, allowsM}
 use Rattle.isa.specs.Table.{rowR, rowI, rowMovei, rowJ, rowC, rowM, tableR, tableMovei, tableJ, tableC, tableM}
 use Rattle.isa.specs.Types.{Instruction, R, I, Movei, J, C, M}

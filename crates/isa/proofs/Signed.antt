@@ -1,9 +1,8 @@
 -- Signed fields: the number that a field stands for has that field again, for a field of any width.
-use Prim.Native.Nat.{ℕ, suc, _+_, _*_, _-_, _%_, _^_, _<_}
+use Prim.Native.Nat.{ℕ, _+_, _*_, _-_, _%_, _^_, _<_}
 use mathlib.Core.Bool.{Bool, true, false, cond}
 use mathlib.Core.Path.{_≡_, refl}
 use native.Mathlib.Nat.{add-mul-mod-self-left, mod-eq-of-lt}
-use native.Mathlib.Omega.{arith}
 use lib.Dec.{ltb}
 use borrow.Author.Tests.{eq-eqb, eqb-true}
 use Rattle.isa.specs.Layout.{signed, cut, fits-signed}

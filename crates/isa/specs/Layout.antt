@@ -1,7 +1,7 @@
 -- The layouts of the instruction words: each format's parts, from bit 31 down to bit 0, as document 01 gives them.
 use Prim.Native.Nat.{ℕ, suc, _+_, _-_, _*_, _/_, _%_, _^_}
 use mathlib.Core.Bool.{Bool, cond}
-use mathlib.Core.List.{List, [], _∷_, map}
+use mathlib.Core.List.{List, [], _∷_}
 use lib.Dec.{eqb, ltb}
 
 -- the bits of a word from `high` down to `low`, as a number

@@ -1,7 +1,7 @@
 -- What a word is read as (document 01, "The words").
 use Prim.Native.Nat.{ℕ, _^_}
 use mathlib.Core.Bool.{Bool, true, false, not, cond}
-use mathlib.Core.List.{List, [], _∷_}
+use mathlib.Core.List.{[], _∷_}
 use mathlib.Core.Option.{Option, none, some}
 use lib.Dec.{eqb}
 use Rattle.answer.specs.Answer.{Answer, given, refused, undefined, not-fitted}

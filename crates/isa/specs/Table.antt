@@ -1,13 +1,13 @@
 -- The tables of the instruction words (document 01, "The words"): for each format its operations, with their opcodes and names.
 use Prim.Native.Nat.{ℕ}
-use mathlib.Core.Bool.{Bool, true, false}
+use mathlib.Core.Bool.{true, false}
 use mathlib.Core.List.{List, [], _∷_, _++_}
 use mathlib.Core.Option.{Option, none, some}
 use Prim.Native.String.{String}
 use lib.Dec.{eqb}
 use Rattle.isa.specs.Text.{bytes}
-use Rattle.isa.specs.Types.{BinaryOp, Or, And, Xor, Add, Sub, Mullo, Mulhi, Mulhu, Ashr, Shr, Shl, UnaryOp, Clz, Ctz, Move, Sext8, Sext16, CompareOp, Eq, Ne, Gt, Ge, Lt, Le, Ugt, Uge, Ult, Ule, Operation, Binary, Unary, Compare, Shuffle, GetLane}
-use Rattle.isa.specs.Types.{MoveiOp, Low, High, Whole, JumpOp, Jmp, Jmpsr, Jret, Beqz, Bnez, ControlOp, Barrier, Readcr, End, LoadOp, Load8, Load16, Load32, Load8u, Load16u, StoreOp, Store8, Store16, Store32, MemoryOp, Load, Store, LoadVector, StoreVector}
+use Rattle.isa.specs.Types.{Or, And, Xor, Add, Sub, Mullo, Mulhi, Mulhu, Ashr, Shr, Shl, Clz, Ctz, Move, Sext8, Sext16, Eq, Ne, Gt, Ge, Lt, Le, Ugt, Uge, Ult, Ule, Operation, Binary, Unary, Compare, Shuffle, GetLane}
+use Rattle.isa.specs.Types.{MoveiOp, Low, High, Whole, JumpOp, Jmp, Jmpsr, Jret, Beqz, Bnez, ControlOp, Barrier, Readcr, End, Load8, Load16, Load32, Load8u, Load16u, Store8, Store16, Store32, MemoryOp, Load, Store, LoadVector, StoreVector}
 
 -- a row: the opcode of an operation, and its name
 pub record Row : Type 0 where

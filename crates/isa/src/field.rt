@@ -1,7 +1,7 @@
 // Signed fields of a word, and the numbers that they stand for. `half` is what the field's sign bit weighs.
 ghost use mathlib.Core.Path.{_≡_};
 ghost use Prim.Native.Nat.{_*_, _≤_, _<_};
-ghost use Rattle.isa.specs.Layout.{signed, cut, fits-signed};
+ghost use Rattle.isa.specs.Layout.{signed, fits-signed};
 
 pub fn sign_extend(half: u32, n: u32) -> u32
     requires { ⌜ (1 ≤ half) × (half ≤ 0x40000000) × (n < 2 * half) ⌝ }

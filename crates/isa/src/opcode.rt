@@ -10,7 +10,6 @@ use crate::instruction::Operation;
 use crate::instruction::StoreOp;
 use crate::instruction::UnaryOp;
 ghost use mathlib.Core.Path.{_≡_};
-ghost use Prim.Native.Nat.{_<_};
 ghost use Rattle.isa.specs.Found.{foundR, foundMovei, foundJ, foundC, foundM};
 ghost use Rattle.isa.specs.Table.{operationAt, tableR, tableMovei, tableJ, tableC, tableM, rowR, rowMovei, rowJ, rowC, rowM, not-fitted-opcodes};
 ghost use Rattle.isa.specs.Test.{isIn};

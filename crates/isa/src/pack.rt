@@ -1,7 +1,7 @@
 // Words put together from their parts, each of which has room.
 ghost use mathlib.Core.Path.{_≡_};
 ghost use mathlib.Core.List.{_∷_, []};
-ghost use Prim.Native.Nat.{_≤_, _<_};
+ghost use Prim.Native.Nat.{_<_};
 ghost use Rattle.isa.specs.Layout.{join, layoutR, layoutI, layoutMovei, layoutJ, layoutC, layoutM};
 
 pub fn r(opcode: u8, d: u8, a: u8, b: u8, flags: u8) -> u32

@@ -1,10 +1,7 @@
 -- `put_line` meets its contract: by what the word is read as.
-use mathlib.Core.Path.{_≡_, _∙_, sym, ap}
 use native.Mathlib.Omega.{arith}
 use borrow.Author.Needs.{needs}
-use lib.ListN.{length}
 use Rattle.isa.proofs.Names.{fits}
-use Rattle.isa.specs.Answer.{reading}
 use Rattle.isa.specs.Name.{nameOf}
 use Rattle.isa.specs.Text.{bytes}
 use Rattle.listing.proofs.Lengths.{name-room, name-taken, name-count}
