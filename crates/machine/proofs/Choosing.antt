@@ -7,11 +7,11 @@ use native.Mathlib.Omega.{arith}
 use borrow.Author.Tests.{ltb-true}
 use lib.Count.{trailingZeros}
 use lib.Dec.{ltb}
-use Rattle.machine.specs.Claims.{FirstAfterLast, Chooses, ChoosesNone}
+use Rattle.machine.specs.Claims.{FirstAfterLast, Chooses, ChoosesNone, Turned}
 use Rattle.machine.specs.Machine.{threadNumbers}
-use Rattle.machine.specs.Scheduler.{runs, after, distances, chosenAt, choice}
+use Rattle.machine.specs.Scheduler.{runs, after, distances, chosenAt, choice, issued, choose}
 use Rattle.machine.specs.Search.{first, bits}
-use Rattle.machine.specs.Types.{Machine, Chosen, NoneRunning}
+use Rattle.machine.specs.Types.{Machine, Chosen, NoneRunning, Turn}
 use Rattle.machine.proofs.Loops.{from}
 use Rattle.machine.proofs.Nearest.{Nowhere, Found, found, lowest, first-at, first-nowhere, bits-lt, bits-nowhere, nowhere-bits, bits-shift, first-lowest, bits-same}
 
@@ -121,3 +121,9 @@ chooses-none m = (there, back)
 
     back : ((t : ℕ) → t < 8 → runs m t ≡ false) → choice m ≡ NoneRunning
     back h = choice-at m (first-nowhere (runsAfter m) 1 8 (none-after m (λ t a b. h t (omega arith))))
+
+pub turned : Turned
+unfolding choose
+turned m r e c f =
+    let q : choice m ≡ c = sym (ap (λ (x : Turn). x .choice) e) ∙ f in
+    (q, ap (λ (x : Turn). x .machine) e ∙ ap (issued m) q)

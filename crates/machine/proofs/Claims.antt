@@ -1,7 +1,7 @@
 -- The claims of specs/, proved.
 pub use Rattle.machine.proofs.Conditions.{tested}
 pub use Rattle.machine.proofs.Starting.{started}
-pub use Rattle.machine.proofs.Choosing.{chooses, chooses-none}
+pub use Rattle.machine.proofs.Choosing.{chooses, chooses-none, turned}
 pub use Rattle.machine.proofs.Kept.{enabled, issues, traps, ends}
 pub use Rattle.machine.proofs.Arrivals.{meets}
 pub use Rattle.machine.proofs.Numbers.{exact}

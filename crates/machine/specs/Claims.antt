@@ -4,13 +4,13 @@ use mathlib.Core.Bool.{true, false}
 use mathlib.Core.Logic.{_↔_}
 use mathlib.Core.Path.{_≡_}
 use lib.ListN.{length}
-use Rattle.machine.specs.Barrier.{meet}
 use Rattle.answer.specs.Answer.{given}
+use Rattle.machine.specs.Barrier.{meet}
 use Rattle.machine.specs.Fields.{fieldsOf, threadOf}
 use Rattle.machine.specs.Machine.{statusAt, bit, trap, end, start}
-use Rattle.machine.specs.Scheduler.{runs, after, choice, withLast}
+use Rattle.machine.specs.Scheduler.{runs, after, choice, withLast, issued, choose}
 use Rattle.machine.specs.Status.{carriesInRange}
-use Rattle.machine.specs.Types.{Idle, Trapped, Waiting, Thread, Machine, Chosen, NoneRunning, Fields}
+use Rattle.machine.specs.Types.{Idle, Trapped, Waiting, Thread, Machine, Choice, Chosen, NoneRunning, Turn, Fields}
 use Rattle.machine.specs.WellFormed.{waiting, wellFormed}
 
 -- Well-formedness.
@@ -60,6 +60,10 @@ Chooses = (m : Machine) (t d : ℕ) → (choice m ≡ Chosen t d) ↔ FirstAfter
 -- and none exactly if no thread runs
 abbrev pub ChoosesNone : Type 0
 ChoosesNone = (m : Machine) → (choice m ≡ NoneRunning) ↔ ((t : ℕ) → t < 8 → runs m t ≡ false)
+
+-- what a caller learns of a turn r: the choice is the rules', and the record the one with which its thread is issued
+abbrev pub Turned : Type 0
+Turned = (m : Machine) (r : Turn) → r ≡ choose m → (c : Choice) → r .choice ≡ c → (choice m ≡ c) × (r .machine ≡ issued m c)
 
 -- a record stays well formed whichever thread is "last"
 abbrev pub Issued : Type 0
