@@ -4,7 +4,7 @@ use mathlib.Core.List.{List, [], _++_, append-assoc, append-nil}
 use mathlib.Core.Path.{_≡_, _∙_, ap}
 use native.Mathlib.Nat.{add-assoc, add-zero}
 use native.Mathlib.Omega.{arith}
-use lib.ListN.{length, take, drop, length-append, length-drop, take-append-drop}
+use lib.ListN.{length, take, drop, length-append, take-append-drop}
 use lib.Seq.{take-at, drop-at, drop-drop, length-take-le}
 use Rattle.listing.specs.Buffer.{placed, Wrote, wrote, writes}
 
@@ -17,9 +17,6 @@ buffer-is h = ap (λ (x : Wrote). x .buffer) h
 module _ (l : List ℕ) (at : ℕ) (t : List ℕ) (fits : at + length t ≤ length l) where
   head : length (take at l ++ t) ≡ at + length t
   head = length-append (take at l) t ∙ ap (λ (n : ℕ). n + length t) (length-take-le at l (omega arith))
-
-  pub length-placed : length (placed l at t) ≡ length l
-  length-placed = length-append (take at l ++ t) (drop (at + length t) l) ∙ rw (head, length-drop (at + length t) l) (omega arith)
 
   pub placed-twice : (u : List ℕ) → placed (placed l at t) (at + length t) u ≡ placed l at (t ++ u)
   placed-twice u =
