@@ -1,6 +1,6 @@
 -- One issue of a thread (document 01, "One issue").
-use Prim.Native.Nat.{ℕ, _+_, _/_}
-use mathlib.Core.Bool.{Bool, true, false, _&&_, cond}
+use Prim.Native.Nat.{ℕ, _/_}
+use mathlib.Core.Bool.{Bool, _&&_, cond}
 use mathlib.Core.List.{List}
 use lib.Dec.{leb, ltb, eqb}
 use lib.ListN.{length, getD}
@@ -10,56 +10,59 @@ use Rattle.machine.specs.Barrier.{meet}
 use Rattle.machine.specs.Machine.{trap, end}
 use Rattle.execution.specs.Access.{access}
 use Rattle.execution.specs.Control.{control}
-use Rattle.execution.specs.Effect.{Executed, trapped, next}
+use Rattle.execution.specs.Effect.{Executed, trapped, next, advanced, beside}
 use Rattle.execution.specs.Immediate.{moveImmediate}
 use Rattle.execution.specs.Jump.{inProgram, jump}
 use Rattle.execution.specs.Operation.{operateR, operateI}
-use Rattle.execution.specs.Registers.{programCounter, withProgramCounter, roomWords}
+use Rattle.execution.specs.Registers.{programCounter, roomWords}
 use Rattle.execution.specs.State.{State, state}
 use Rattle.execution.specs.Types.{Instruction, R, I, Movei, J, C, M, Effect, Stays, Traps, Ends, Meets, Machine, Meeting}
 
--- what an instruction does, in a program of so many words
-unfoldable pub execute : ℕ → ℕ → ℕ → List ℕ → List ℕ → Instruction → Executed
-execute words enabled t room memory (R op flags d a b) = next (programCounter room t) t (operateR room t op flags d a b) memory
-execute words enabled t room memory (I op flags d a immediate) = next (programCounter room t) t (operateI room t op flags d a immediate) memory
-execute words enabled t room memory (Movei op flag d immediate) = next (programCounter room t) t (moveImmediate room t op (eqb flag 1) d immediate) memory
-execute words enabled t room memory (J op register offset) = jump words t room memory op register offset
-execute words enabled t room memory (C op first second) = control enabled t room memory op first second
-execute words enabled t room memory (M op register base offset) = access t room memory op register base offset
+-- what an instruction at address pc does, in a program of so many words
+abbrev pub execute : ℕ → ℕ → ℕ → List ℕ → List ℕ → ℕ → Instruction → Executed
+execute words enabled t room memory pc (R op flags d a b) = beside (next pc t (operateR room t op flags d a b)) memory
+execute words enabled t room memory pc (I op flags d a immediate) = beside (next pc t (operateI room t op flags d a immediate)) memory
+execute words enabled t room memory pc (Movei op flag d immediate) = beside (next pc t (moveImmediate room t op (eqb flag 1) d immediate)) memory
+execute words enabled t room memory pc (J op register offset) = beside (jump words t room pc op register offset) memory
+execute words enabled t room memory pc (C op first second) = beside (control enabled t room pc op first second) memory
+execute words enabled t room memory pc (M op register base offset) = access t room memory pc op register base offset
 
 -- "undefined word (3); not fitted (6)"
 abbrev pub unreadable : ℕ → ℕ
 unreadable number = cond (eqb number undefined) 3 6
 
--- then the operation's own checks
-abbrev pub executeWord : ℕ → ℕ → ℕ → List ℕ → List ℕ → Answer Instruction → Executed
-executeWord words enabled t room memory (given i) = execute words enabled t room memory i
-executeWord words enabled t room memory (refused number) = trapped (unreadable number) room memory
+-- "undefined word (3); not fitted (6); then those of the operation"
+abbrev pub executeRead : ℕ → ℕ → ℕ → List ℕ → List ℕ → ℕ → Answer Instruction → Executed
+executeRead words enabled t room memory pc (given i) = execute words enabled t room memory pc i
+executeRead words enabled t room memory pc (refused number) = beside (trapped (unreadable number) room) memory
 
--- "The word is at the thread's s63. Checks, in order: s63 not a multiple of 4, or at or past the program's end (reason 4)"
-unfoldable pub fetch : List ℕ → ℕ → ℕ → List ℕ → List ℕ → Executed
-fetch p enabled t room memory =
-    cond (inProgram (length p) (programCounter room t))
-    (executeWord (length p) enabled t room memory (read (getD p (programCounter room t / 4) 0)))
-    (trapped 4 room memory)
+unfoldable pub executeWord : ℕ → ℕ → ℕ → List ℕ → List ℕ → ℕ → ℕ → Executed
+executeWord words enabled t room memory pc w = executeRead words enabled t room memory pc (read w)
 
 -- "Else s63 moves on and the thread waits": not where the meeting traps
-abbrev pub afterMeeting : Meeting → ℕ → List ℕ → List ℕ
-afterMeeting met t room = cond (met .trapped) room (withProgramCounter room t (programCounter room t + 4))
+abbrev pub afterMeeting : ℕ → ℕ → List ℕ → Meeting → List ℕ
+afterMeeting pc t room met = cond (met .trapped) room (advanced pc t room)
 
--- what the machine record owes an instruction
-abbrev pub settle : Machine → ℕ → Effect → List ℕ → List ℕ → State
-settle m t Stays room memory = state m room memory
-settle m t (Traps reason) room memory = state (trap m t reason) room memory
-settle m t Ends room memory = state (end m t) room memory
-settle m t (Meets id second) room memory = state (meet m t id second .machine) (afterMeeting (meet m t id second) t room) memory
+-- what becomes of the machine record
+abbrev pub settle : Machine → ℕ → ℕ → List ℕ → List ℕ → Effect → State
+settle m t pc room memory Stays = state m room memory
+settle m t pc room memory (Traps reason) = state (trap m t reason) room memory
+settle m t pc room memory Ends = state (end m t) room memory
+settle m t pc room memory (Meets id second) = state (meet m t id second .machine) (afterMeeting pc t room (meet m t id second)) memory
 
-abbrev pub settled : Machine → ℕ → Executed → State
-settled m t x = settle m t (x .effect) (x .registers) (x .memory)
+abbrev pub settled : Machine → ℕ → ℕ → Executed → State
+settled m t pc x = settle m t pc (x .registers) (x .memory) (x .effect)
+
+-- "The word is at the thread's s63. Checks, in order: s63 not a multiple of 4, or at or past the program's end (reason 4); .."
+abbrev pub performAt : List ℕ → State → ℕ → ℕ → State
+performAt p s t pc =
+    cond (inProgram (length p) pc)
+    (settled (s .machine) t pc (executeWord (length p) (s .machine .enabled) t (s .registers) (s .memory) pc (getD p (pc / 4) 0)))
+    (state (trap (s .machine) t 4) (s .registers) (s .memory))
 
 -- one issue of a thread that is "last" already
 unfoldable pub perform : List ℕ → State → ℕ → State
-perform p s t = settled (s .machine) t (fetch p (s .machine .enabled) t (s .registers) (s .memory))
+perform p s t = performAt p s t (programCounter (s .registers) t)
 
 -- whether the lengths and the thread are such as a run that is not refused comes to
 abbrev pub fits : ℕ → ℕ → ℕ → Bool

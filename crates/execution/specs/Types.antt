@@ -3,6 +3,8 @@ pub use Rattle.execution.specs.declared.operand.Source.{Source}
 pub use Rattle.execution.specs.declared.operand.Source.the-variants.{Scalar, Vector}
 pub use Rattle.execution.specs.declared.effect.Effect.{Effect}
 pub use Rattle.execution.specs.declared.effect.Effect.the-variants.{Stays, Traps, Ends, Meets}
+pub use Rattle.execution.specs.declared.control.ControlValue.{ControlValue}
+pub use Rattle.execution.specs.declared.control.ControlValue.the-variants.{Known, Unknown}
 pub use Rattle.isa.specs.declared.instruction.BinaryOp.{BinaryOp}
 pub use Rattle.isa.specs.declared.instruction.UnaryOp.{UnaryOp}
 pub use Rattle.isa.specs.declared.instruction.CompareOp.{CompareOp}
@@ -14,6 +16,8 @@ pub use Rattle.isa.specs.declared.instruction.JumpOp.{JumpOp}
 pub use Rattle.isa.specs.declared.instruction.JumpOp.the-variants.{Jmp, Jmpsr, Jret, Beqz, Bnez}
 pub use Rattle.isa.specs.declared.instruction.ControlOp.{ControlOp}
 pub use Rattle.isa.specs.declared.instruction.ControlOp.the-variants.{Barrier, Readcr, End}
+pub use Rattle.isa.specs.declared.instruction.LoadOp.{LoadOp}
+pub use Rattle.isa.specs.declared.instruction.StoreOp.{StoreOp}
 pub use Rattle.isa.specs.declared.instruction.MemoryOp.{MemoryOp}
 pub use Rattle.isa.specs.declared.instruction.MemoryOp.the-variants.{Load, Store, LoadVector, StoreVector}
 pub use Rattle.isa.specs.declared.instruction.Instruction.{Instruction}

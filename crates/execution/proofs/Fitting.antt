@@ -1,0 +1,14 @@
+-- What the test of the lengths and the thread says.
+use Prim.Native.Nat.{ℕ, _≤_, _<_}
+use mathlib.Core.Bool.{Bool, true, _&&_}
+use mathlib.Core.Path.{_≡_}
+use lib.Dec.{leb, eqb, ltb}
+use borrow.Author.Tests.{leb-true, eqb-true, ltb-true}
+use Rattle.isa.proofs.Both.{and-left, and-right}
+use Rattle.execution.specs.Issue.{fits}
+use Rattle.execution.specs.Registers.{roomWords}
+
+pub fitting : (words room t : ℕ) → fits words room t ≡ true → (words ≤ 16384) × (room ≡ roomWords) × (t < 8)
+fitting words room t h =
+    let k = and-left (leb words 16384 && eqb room roomWords) _ h in
+    (leb-true _ _ (and-left _ (eqb room roomWords) k), eqb-true _ _ (and-right (leb words 16384) _ k), ltb-true _ _ (and-right (leb words 16384 && eqb room roomWords) _ h))

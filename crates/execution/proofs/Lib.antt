@@ -1,0 +1,3 @@
+-- Laws that several proofs cite, and the proofs of the claims.
+pub mod Targets
+pub mod Fitting

@@ -1,0 +1,17 @@
+-- `operation::operate_i` meets its contract.
+use Rattle.execution.specs.Operation.{operateI}
+use borrow.Author.Needs.{needs}
+use Rattle.execution.proofs.operation.operate_i.Statement.{statement}
+use Rattle.execution.proofs.operation.operate_i.Tie as tie
+
+pub operate-i-spec : {M : Type 1} → statement M
+unfolding operateI
+operate-i-spec =
+    tie.close
+    (tie.spec
+    (λ c κs. search needs)
+    (λ c κs. search needs)
+    (λ c κs. search needs)
+    (λ c κs. search needs)
+    (λ c. search needs)
+    (λ c. rw (c .before .before .operate .ensures, c .before .before .before .is-on2 .ensures, c .before .before .before .before .before .select .ensures .0, c .before .before .before .before .before .before .is-on .ensures)))

@@ -1,0 +1,42 @@
+// Moves of an immediate into a register.
+ghost use mathlib.Core.Path.{_≡_};
+ghost use Prim.Native.Nat.{_<_, _^_};
+ghost use Rattle.execution.specs.Immediate.{replaced, replacedLanes, moveImmediate};
+ghost use Rattle.execution.specs.Registers.{InRoom};
+use crate::registers;
+use isa::MoveiOp;
+
+fn replace(op: MoveiOp, old: u32, n: u32) -> u32
+    requires { ⌜ n < 2 ^ 16 ⌝ }
+    ensures { λ r. ⌜ r ≡ replaced op old n ⌝ }
+{
+    match op {
+        MoveiOp::Low => old / 65536 * 65536 + n,
+        MoveiOp::High => n * 65536 + old % 65536,
+        MoveiOp::Whole => n,
+    }
+}
+
+fn replace_lanes(op: MoveiOp, old: [u32; 16], n: u32) -> [u32; 16]
+    requires { ⌜ n < 2 ^ 16 ⌝ }
+    ensures { λ r. ⌜ r ≡ replacedLanes op old n ⌝ }
+{
+    let mut v = [0u32; 16];
+    for j in 0..16usize {
+        v[j] = replace(op, old[j], n);
+    }
+    v
+}
+
+pub fn move_immediate(room: &mut [u32], t: usize, op: MoveiOp, flag: bool, d: u8, n: u32)
+    requires { ⌜ InRoom (now room) t × (d < 64) × (n < 2 ^ 16) ⌝ }
+    ensures { λ _. ⌜ now (room .exit) ≡ moveImmediate (now (room .entry)) t op flag d n ⌝ }
+{
+    if flag {
+        let old = registers::vector(room, t, d);
+        registers::set_lanes_on(room, t, d, replace_lanes(op, old, n));
+    } else {
+        let old = registers::scalar(room, t, d);
+        registers::set_scalar(room, t, d, replace(op, old, n));
+    }
+}

@@ -1,0 +1,62 @@
+// One issue of a thread.
+ghost use mathlib.Core.Path.{_≡_};
+ghost use Prim.Native.Nat.{_≤_, _<_};
+ghost use lib.ListN.{length};
+ghost use Rattle.machine.specs.Barrier.{meet};
+ghost use Rattle.execution.specs.Issue.{afterMeeting, fits, perform, issue};
+ghost use Rattle.execution.specs.Registers.{InRoom};
+ghost use Rattle.execution.specs.State.{state};
+use crate::effect::Effect;
+use crate::execute;
+use crate::jump;
+use crate::registers;
+use machine::Machine;
+
+// Whether the lengths and the thread are such as a run comes to.
+fn fits(words: usize, room: usize, thread: usize) -> bool
+    ensures { λ r. ⌜ r ≡ fits words room thread ⌝ }
+{
+    (words <= 16384) & (room == 8704) & (thread < 8)
+}
+
+// The thread at a barrier: s63 moves on unless it traps.
+fn meet(registers: &mut [u32], machine: Machine, t: usize, pc: u32, id: u32, second: u32) -> Machine
+    requires { ⌜ InRoom (now registers) t × (pc < 65536) ⌝ }
+    ensures { λ r. ⌜ (r ≡ meet machine t id second .machine) × (now (registers .exit) ≡ afterMeeting pc t (now (registers .entry)) (meet machine t id second)) ⌝ }
+{
+    let met = machine.meet(t, id, second);
+    if met.trapped {
+        return met.machine;
+    }
+    registers::advance(registers, t, pc);
+    met.machine
+}
+
+// The issue of a thread that is "last" already.
+fn perform(program: &[u32], registers: &mut [u32], memory: &mut [u8], machine: Machine, t: usize) -> Machine
+    requires { ⌜ InRoom (now registers) t × (length (now program) ≤ 16384) ⌝ }
+    ensures { λ r. ⌜ state r (now (registers .exit)) (now (memory .exit)) ≡ perform (now (program .entry)) (state machine (now (registers .entry)) (now (memory .entry))) t ⌝ }
+{
+    let words = program.len();
+    let pc = registers::scalar(registers, t, registers::PROGRAM_COUNTER);
+    if !jump::in_program(words, pc) {
+        return machine.trap(t, 4);
+    }
+    let w = program[(pc / 4) as usize];
+    match execute::word(words, machine.enabled, registers, memory, t, pc, w) {
+        Effect::Stays => machine,
+        Effect::Traps(reason) => machine.trap(t, reason),
+        Effect::Ends => machine.end(t),
+        Effect::Meets(id, second) => meet(registers, machine, t, pc, id, second),
+    }
+}
+
+// The same, for any lengths and any thread number.
+pub fn issue(program: &[u32], registers: &mut [u32], memory: &mut [u8], machine: Machine, thread: usize) -> Machine
+    ensures { λ r. ⌜ state r (now (registers .exit)) (now (memory .exit)) ≡ issue (now (program .entry)) (state machine (now (registers .entry)) (now (memory .entry))) thread ⌝ }
+{
+    if fits(program.len(), registers.len(), thread) {
+        return perform(program, registers, memory, machine, thread);
+    }
+    machine
+}

@@ -1,0 +1,13 @@
+// One issue of a thread (document 01, "One issue" and "The words").
+mod access;
+mod control;
+mod effect;
+mod execute;
+mod immediate;
+mod issuing;
+mod jump;
+mod operand;
+mod operation;
+mod registers;
+
+pub use issuing::issue;

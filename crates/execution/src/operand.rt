@@ -1,0 +1,51 @@
+// Operands: words and vector registers.
+ghost use mathlib.Core.Path.{_≡_};
+ghost use Prim.Native.Nat.{_<_};
+ghost use Rattle.execution.specs.Operand.{source, isVector, word, lanes, Named};
+ghost use Rattle.execution.specs.Registers.{InRoom};
+use crate::registers;
+
+// A scalar's word, or the number of a vector register: its lanes are read where they are used.
+pub enum Source {
+    Scalar(u32),
+    Vector(u8),
+}
+
+pub fn select(room: &[u32], t: usize, flag: bool, i: u8) -> Source
+    requires { ⌜ InRoom (now room) t × (i < 64) ⌝ }
+    ensures { λ r. ⌜ (r ≡ source (now (room .entry)) t flag i) × Named r ⌝ }
+{
+    if flag {
+        Source::Vector(i)
+    } else {
+        Source::Scalar(registers::scalar(room, t, i))
+    }
+}
+
+pub fn is_vector(s: Source) -> bool
+    ensures { λ r. ⌜ r ≡ isVector s ⌝ }
+{
+    match s {
+        Source::Scalar(_) => false,
+        Source::Vector(_) => true,
+    }
+}
+
+pub fn word(s: Source) -> u32
+    ensures { λ r. ⌜ r ≡ word s ⌝ }
+{
+    match s {
+        Source::Scalar(x) => x,
+        Source::Vector(_) => 0,
+    }
+}
+
+pub fn lanes(room: &[u32], t: usize, s: Source) -> [u32; 16]
+    requires { ⌜ InRoom (now room) t × Named s ⌝ }
+    ensures { λ r. ⌜ r ≡ lanes (now (room .entry)) t s ⌝ }
+{
+    match s {
+        Source::Scalar(x) => alu::splat(x),
+        Source::Vector(i) => registers::vector(room, t, i),
+    }
+}

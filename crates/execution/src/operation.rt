@@ -1,0 +1,116 @@
+// The operations of R and I: register d from operands a and b.
+ghost use mathlib.Core.Path.{_≡_};
+ghost use mathlib.Core.Bool.{cond};
+ghost use Prim.Native.Nat.{_<_};
+ghost use Rattle.execution.specs.Operand.{Named};
+ghost use Rattle.execution.specs.Operation.{binaryInto, unaryInto, compareInto, shuffleInto, getLaneInto, operate, operateR, operateI};
+ghost use Rattle.execution.specs.Registers.{InRoom};
+use crate::operand;
+use crate::operand::Source;
+use crate::registers;
+use isa::BinaryOp;
+use isa::CompareOp;
+use isa::Operation;
+use isa::UnaryOp;
+
+fn binary(room: &mut [u32], t: usize, op: BinaryOp, flag: bool, d: u8, a: Source, b: Source)
+    requires { ⌜ InRoom (now room) t × (d < 64) × Named a × Named b ⌝ }
+    ensures { λ _. ⌜ now (room .exit) ≡ binaryInto (now (room .entry)) t op flag d a b ⌝ }
+{
+    if flag {
+        let x = operand::lanes(room, t, a);
+        let y = operand::lanes(room, t, b);
+        let mask = registers::scalar(room, t, registers::LANE_MASK);
+        let old = registers::vector(room, t, d);
+        registers::set_vector(room, t, d, alu::binary_masked(op, mask, x, y, old));
+    } else {
+        let x = operand::word(a);
+        let y = operand::word(b);
+        registers::set_scalar(room, t, d, alu::binary(op, x, y));
+    }
+}
+
+fn unary(room: &mut [u32], t: usize, op: UnaryOp, flag: bool, d: u8, a: Source)
+    requires { ⌜ InRoom (now room) t × (d < 64) × Named a ⌝ }
+    ensures { λ _. ⌜ now (room .exit) ≡ unaryInto (now (room .entry)) t op flag d a ⌝ }
+{
+    if flag {
+        let x = operand::lanes(room, t, a);
+        let mask = registers::scalar(room, t, registers::LANE_MASK);
+        let old = registers::vector(room, t, d);
+        registers::set_vector(room, t, d, alu::unary_masked(op, mask, x, old));
+    } else {
+        let x = operand::word(a);
+        registers::set_scalar(room, t, d, alu::unary(op, x));
+    }
+}
+
+fn number(holds: bool) -> u32
+    ensures { λ r. ⌜ r ≡ cond holds 1 0 ⌝ }
+{
+    if holds { 1 } else { 0 }
+}
+
+fn compare(room: &mut [u32], t: usize, op: CompareOp, d: u8, a: Source, b: Source)
+    requires { ⌜ InRoom (now room) t × (d < 64) × Named a × Named b ⌝ }
+    ensures { λ _. ⌜ now (room .exit) ≡ compareInto (now (room .entry)) t op d a b ⌝ }
+{
+    if operand::is_vector(a) | operand::is_vector(b) {
+        let x = operand::lanes(room, t, a);
+        let y = operand::lanes(room, t, b);
+        let mask = registers::scalar(room, t, registers::LANE_MASK);
+        registers::set_scalar(room, t, d, alu::compare_lanes(op, mask, x, y));
+    } else {
+        let x = operand::word(a);
+        let y = operand::word(b);
+        registers::set_scalar(room, t, d, number(alu::compare(op, x, y)));
+    }
+}
+
+fn shuffle(room: &mut [u32], t: usize, d: u8, a: Source, b: Source)
+    requires { ⌜ InRoom (now room) t × (d < 64) × Named a × Named b ⌝ }
+    ensures { λ _. ⌜ now (room .exit) ≡ shuffleInto (now (room .entry)) t d a b ⌝ }
+{
+    let x = operand::lanes(room, t, a);
+    let y = operand::lanes(room, t, b);
+    registers::set_lanes_on(room, t, d, alu::shuffle(x, y));
+}
+
+fn get_lane(room: &mut [u32], t: usize, d: u8, a: Source, b: Source)
+    requires { ⌜ InRoom (now room) t × (d < 64) × Named a ⌝ }
+    ensures { λ _. ⌜ now (room .exit) ≡ getLaneInto (now (room .entry)) t d a b ⌝ }
+{
+    let x = operand::lanes(room, t, a);
+    let j = operand::word(b) % 16;
+    registers::set_scalar(room, t, d, x[j as usize]);
+}
+
+fn operate(room: &mut [u32], t: usize, op: Operation, flag: bool, d: u8, a: Source, b: Source)
+    requires { ⌜ InRoom (now room) t × (d < 64) × Named a × Named b ⌝ }
+    ensures { λ _. ⌜ now (room .exit) ≡ operate (now (room .entry)) t op flag d a b ⌝ }
+{
+    match op {
+        Operation::Binary(o) => binary(room, t, o, flag, d, a, b),
+        Operation::Unary(o) => unary(room, t, o, flag, d, a),
+        Operation::Compare(o) => compare(room, t, o, d, a, b),
+        Operation::Shuffle => shuffle(room, t, d, a, b),
+        Operation::GetLane => get_lane(room, t, d, a, b),
+    }
+}
+
+pub fn operate_r(room: &mut [u32], t: usize, op: Operation, flags: u8, d: u8, a: u8, b: u8)
+    requires { ⌜ InRoom (now room) t × (d < 64) × (a < 64) × (b < 64) ⌝ }
+    ensures { λ _. ⌜ now (room .exit) ≡ operateR (now (room .entry)) t op flags d a b ⌝ }
+{
+    let x = operand::select(room, t, alu::is_on(flags as u32, 1), a);
+    let y = operand::select(room, t, alu::is_on(flags as u32, 0), b);
+    operate(room, t, op, alu::is_on(flags as u32, 2), d, x, y);
+}
+
+pub fn operate_i(room: &mut [u32], t: usize, op: Operation, flags: u8, d: u8, a: u8, immediate: u32)
+    requires { ⌜ InRoom (now room) t × (d < 64) × (a < 64) ⌝ }
+    ensures { λ _. ⌜ now (room .exit) ≡ operateI (now (room .entry)) t op flags d a immediate ⌝ }
+{
+    let x = operand::select(room, t, alu::is_on(flags as u32, 0), a);
+    operate(room, t, op, alu::is_on(flags as u32, 1), d, x, Source::Scalar(immediate));
+}
