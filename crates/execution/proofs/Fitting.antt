@@ -1,8 +1,8 @@
 -- What the test of the lengths and the thread says.
 use Prim.Native.Nat.{ℕ, _≤_, _<_}
-use mathlib.Core.Bool.{Bool, true, _&&_}
+use mathlib.Core.Bool.{true, _&&_}
 use mathlib.Core.Path.{_≡_}
-use lib.Dec.{leb, eqb, ltb}
+use lib.Dec.{leb, eqb}
 use borrow.Author.Tests.{leb-true, eqb-true, ltb-true}
 use Rattle.isa.proofs.Both.{and-left, and-right}
 use Rattle.execution.specs.Issue.{fits}

@@ -1,3 +1,6 @@
 -- Laws that several proofs cite, and the proofs of the claims.
 pub mod Targets
 pub mod Fitting
+pub mod Lengths
+pub mod Effects
+pub mod Claims

@@ -2,14 +2,13 @@
 use Prim.Native.Nat.{ℕ, _+_, _-_, _*_, _%_, _^_, _≤_, _<_}
 use mathlib.Core.Bool.{Bool, true, false, _&&_, cond}
 use mathlib.Core.List.{List}
-use mathlib.Core.Path.{_≡_, refl, ap}
-use native.Mathlib.Nat.{mod-eq-of-lt}
+use mathlib.Core.Path.{_≡_, refl}
 use native.Mathlib.Omega.{arith}
 use lib.Dec.{eqb, leb, ltb}
 use borrow.Author.Tests.{leb-true, leb-false, ltb-true, le-ltb}
 use Rattle.isa.proofs.Both.{and-right}
 use Rattle.execution.specs.Effect.{Step, trapped}
-use Rattle.execution.specs.Jump.{inProgram, jumpTo, jumpOver, jumpBy}
+use Rattle.execution.specs.Jump.{inProgram, jumpTo, jumpBy}
 
 -- an address with a word is before the program's end
 pub before-end : (words address : ℕ) → inProgram words address ≡ true → address < 4 * words

@@ -1,6 +1,6 @@
 -- The operations of R and I on registers (document 01, "The words", R and I).
 use Prim.Native.Nat.{ℕ, _%_}
-use mathlib.Core.Bool.{Bool, true, false, _||_, cond}
+use mathlib.Core.Bool.{Bool, _||_, cond}
 use mathlib.Core.List.{List}
 use Rattle.alu.specs.Binary.{binary}
 use Rattle.alu.specs.Compare.{compare}

@@ -13,7 +13,16 @@ use isa::StoreOp;
 use memory::Access;
 use memory::Loaded;
 
-fn load(room: &mut [u32], memory: &[u8], t: usize, pc: u32, op: LoadOp, register: u8, base: u8, offset: u32) -> Effect
+fn load(
+    room: &mut [u32],
+    memory: &[u8],
+    t: usize,
+    pc: u32,
+    op: LoadOp,
+    register: u8,
+    base: u8,
+    offset: u32,
+) -> Effect
     requires { ⌜ InRoom (now room) t × (pc < 65536) × (register < 64) × (base < 64) ⌝ }
     ensures { λ r. ⌜ step r (now (room .exit)) ≡ loadInto t (now (room .entry)) (now (memory .entry)) pc op register base offset ⌝ }
 {
@@ -44,7 +53,16 @@ fn go_on(room: &mut [u32], t: usize, pc: u32, access: Access) -> Effect
     }
 }
 
-fn store(room: &mut [u32], memory: &mut [u8], t: usize, pc: u32, op: StoreOp, register: u8, base: u8, offset: u32) -> Effect
+fn store(
+    room: &mut [u32],
+    memory: &mut [u8],
+    t: usize,
+    pc: u32,
+    op: StoreOp,
+    register: u8,
+    base: u8,
+    offset: u32,
+) -> Effect
     requires { ⌜ InRoom (now room) t × (pc < 65536) × (register < 64) × (base < 64) ⌝ }
     ensures { λ r. ⌜ executed r (now (room .exit)) (now (memory .exit)) ≡ storeFrom t (now (room .entry)) (now (memory .entry)) pc op register base offset ⌝ }
 {
@@ -54,7 +72,15 @@ fn store(room: &mut [u32], memory: &mut [u8], t: usize, pc: u32, op: StoreOp, re
     go_on(room, t, pc, access)
 }
 
-fn load_lanes(room: &mut [u32], memory: &[u8], t: usize, pc: u32, register: u8, base: u8, offset: u32) -> Effect
+fn load_lanes(
+    room: &mut [u32],
+    memory: &[u8],
+    t: usize,
+    pc: u32,
+    register: u8,
+    base: u8,
+    offset: u32,
+) -> Effect
     requires { ⌜ InRoom (now room) t × (pc < 65536) × (register < 64) × (base < 64) ⌝ }
     ensures { λ r. ⌜ step r (now (room .exit)) ≡ loadLanesInto t (now (room .entry)) (now (memory .entry)) pc register base offset ⌝ }
 {
@@ -73,7 +99,15 @@ fn load_lanes(room: &mut [u32], memory: &[u8], t: usize, pc: u32, register: u8, 
     }
 }
 
-fn store_lanes(room: &mut [u32], memory: &mut [u8], t: usize, pc: u32, register: u8, base: u8, offset: u32) -> Effect
+fn store_lanes(
+    room: &mut [u32],
+    memory: &mut [u8],
+    t: usize,
+    pc: u32,
+    register: u8,
+    base: u8,
+    offset: u32,
+) -> Effect
     requires { ⌜ InRoom (now room) t × (pc < 65536) × (register < 64) × (base < 64) ⌝ }
     ensures { λ r. ⌜ executed r (now (room .exit)) (now (memory .exit)) ≡ storeLanesFrom t (now (room .entry)) (now (memory .entry)) pc register base offset ⌝ }
 {
@@ -84,7 +118,16 @@ fn store_lanes(room: &mut [u32], memory: &mut [u8], t: usize, pc: u32, register:
     go_on(room, t, pc, access)
 }
 
-pub fn access(room: &mut [u32], memory: &mut [u8], t: usize, pc: u32, op: MemoryOp, register: u8, base: u8, offset: u32) -> Effect
+pub fn access(
+    room: &mut [u32],
+    memory: &mut [u8],
+    t: usize,
+    pc: u32,
+    op: MemoryOp,
+    register: u8,
+    base: u8,
+    offset: u32,
+) -> Effect
     requires { ⌜ InRoom (now room) t × (pc < 65536) × (register < 64) × (base < 64) ⌝ }
     ensures { λ r. ⌜ executed r (now (room .exit)) (now (memory .exit)) ≡ access t (now (room .entry)) (now (memory .entry)) pc op register base offset ⌝ }
 {

@@ -45,7 +45,15 @@ fn read_control(enabled: u8, room: &mut [u32], t: usize, pc: u32, first: u8, sec
     }
 }
 
-pub fn control(enabled: u8, room: &mut [u32], t: usize, pc: u32, op: ControlOp, first: u8, second: u8) -> Effect
+pub fn control(
+    enabled: u8,
+    room: &mut [u32],
+    t: usize,
+    pc: u32,
+    op: ControlOp,
+    first: u8,
+    second: u8,
+) -> Effect
     requires { ⌜ InRoom (now room) t × (pc < 65536) × (first < 64) × (second < 64) ⌝ }
     ensures { λ r. ⌜ step r (now (room .exit)) ≡ control enabled t (now (room .entry)) pc op first second ⌝ }
 {

@@ -16,7 +16,15 @@ use isa::Instruction;
 use isa::Reading;
 
 // The instruction at address pc, in a program of so many words.
-fn instruction(words: usize, enabled: u8, room: &mut [u32], memory: &mut [u8], t: usize, pc: u32, i: Instruction) -> Effect
+fn instruction(
+    words: usize,
+    enabled: u8,
+    room: &mut [u32],
+    memory: &mut [u8],
+    t: usize,
+    pc: u32,
+    i: Instruction,
+) -> Effect
     requires { ⌜ InRoom (now room) t × (words ≤ 16384) × (pc < 65536) × Ranged i ⌝ }
     ensures { λ r. ⌜ executed r (now (room .exit)) (now (memory .exit)) ≡ execute words enabled t (now (room .entry)) (now (memory .entry)) pc i ⌝ }
 {
@@ -26,24 +34,60 @@ fn instruction(words: usize, enabled: u8, room: &mut [u32], memory: &mut [u8], t
             registers::advance(room, t, pc);
             Effect::Stays
         }
-        Instruction::I { op, flags, d, a, immediate } => {
+        Instruction::I {
+            op,
+            flags,
+            d,
+            a,
+            immediate,
+        } => {
             operation::operate_i(room, t, op, flags, d, a, immediate);
             registers::advance(room, t, pc);
             Effect::Stays
         }
-        Instruction::Movei { op, flag, d, immediate } => {
+        Instruction::Movei {
+            op,
+            flag,
+            d,
+            immediate,
+        } => {
             immediate::move_immediate(room, t, op, flag == 1, d, immediate);
             registers::advance(room, t, pc);
             Effect::Stays
         }
-        Instruction::J { op, register, offset } => jump::jump(words, room, t, pc, op, register, offset),
-        Instruction::C { op, first, second } => control::control(enabled, room, t, pc, op, first, second),
-        Instruction::M { op, register, base, offset } => access::access(room, memory, t, pc, op, register, base, offset),
+        Instruction::J {
+            op,
+            register,
+            offset,
+        } => jump::jump(words, room, t, pc, op, register, offset),
+        Instruction::C { op, first, second } => control::control(
+            enabled,
+            room,
+            t,
+            pc,
+            op,
+            first,
+            second,
+        ),
+        Instruction::M {
+            op,
+            register,
+            base,
+            offset,
+        } => access::access(room, memory, t, pc, op, register, base, offset),
     }
 }
 
 // The word at address pc.
-pub fn word(words: usize, enabled: u8, room: &mut [u32], memory: &mut [u8], t: usize, pc: u32, w: u32) -> Effect
+pub fn word(
+    words: usize,
+    enabled: u8,
+    room: &mut [u32],
+    memory: &mut [u8],
+    t: usize,
+    pc: u32,
+    w: u32,
+) -> Effect
     requires { ⌜ InRoom (now room) t × (words ≤ 16384) × (pc < 65536) ⌝ }
     ensures { λ r. ⌜ executed r (now (room .exit)) (now (memory .exit)) ≡ executeWord words enabled t (now (room .entry)) (now (memory .entry)) pc w ⌝ }
 {

@@ -33,7 +33,13 @@ fn meet(registers: &mut [u32], machine: Machine, t: usize, pc: u32, id: u32, sec
 }
 
 // The issue of a thread that is "last" already.
-fn perform(program: &[u32], registers: &mut [u32], memory: &mut [u8], machine: Machine, t: usize) -> Machine
+fn perform(
+    program: &[u32],
+    registers: &mut [u32],
+    memory: &mut [u8],
+    machine: Machine,
+    t: usize,
+) -> Machine
     requires { ⌜ InRoom (now registers) t × (length (now program) ≤ 16384) ⌝ }
     ensures { λ r. ⌜ state r (now (registers .exit)) (now (memory .exit)) ≡ perform (now (program .entry)) (state machine (now (registers .entry)) (now (memory .entry))) t ⌝ }
 {
@@ -52,7 +58,13 @@ fn perform(program: &[u32], registers: &mut [u32], memory: &mut [u8], machine: M
 }
 
 // The same, for any lengths and any thread number.
-pub fn issue(program: &[u32], registers: &mut [u32], memory: &mut [u8], machine: Machine, thread: usize) -> Machine
+pub fn issue(
+    program: &[u32],
+    registers: &mut [u32],
+    memory: &mut [u8],
+    machine: Machine,
+    thread: usize,
+) -> Machine
     ensures { λ r. ⌜ state r (now (registers .exit)) (now (memory .exit)) ≡ issue (now (program .entry)) (state machine (now (registers .entry)) (now (memory .entry))) thread ⌝ }
 {
     if fits(program.len(), registers.len(), thread) {

@@ -40,10 +40,10 @@ fn jump_and_link(words: usize, room: &mut [u32], t: usize, pc: u32, offset: u32)
     requires { ⌜ InRoom (now room) t × (words ≤ 16384) × (pc < 65536) ⌝ }
     ensures { λ r. ⌜ step r (now (room .exit)) ≡ jumpBy words t (now (room .entry)) (linked pc t (now (room .entry))) pc offset ⌝ }
 {
-    let address = std::num::wrapping_add_u32(pc, offset);
-    if in_program(words, address) {
+    let target = std::num::wrapping_add_u32(pc, offset);
+    if in_program(words, target) {
         registers::set_scalar(room, t, registers::LINK, pc + 4);
-        registers::set_scalar(room, t, registers::PROGRAM_COUNTER, address);
+        registers::set_scalar(room, t, registers::PROGRAM_COUNTER, target);
         return Effect::Stays;
     }
     Effect::Traps(4)
@@ -61,7 +61,15 @@ fn branch(words: usize, room: &mut [u32], t: usize, pc: u32, taken: bool, offset
     Effect::Stays
 }
 
-pub fn jump(words: usize, room: &mut [u32], t: usize, pc: u32, op: JumpOp, register: u8, offset: u32) -> Effect
+pub fn jump(
+    words: usize,
+    room: &mut [u32],
+    t: usize,
+    pc: u32,
+    op: JumpOp,
+    register: u8,
+    offset: u32,
+) -> Effect
     requires { ⌜ InRoom (now room) t × (words ≤ 16384) × (pc < 65536) × (register < 64) ⌝ }
     ensures { λ r. ⌜ step r (now (room .exit)) ≡ jump words t (now (room .entry)) pc op register offset ⌝ }
 {

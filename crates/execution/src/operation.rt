@@ -112,5 +112,13 @@ pub fn operate_i(room: &mut [u32], t: usize, op: Operation, flags: u8, d: u8, a:
     ensures { λ _. ⌜ now (room .exit) ≡ operateI (now (room .entry)) t op flags d a immediate ⌝ }
 {
     let x = operand::select(room, t, alu::is_on(flags as u32, 0), a);
-    operate(room, t, op, alu::is_on(flags as u32, 1), d, x, Source::Scalar(immediate));
+    operate(
+        room,
+        t,
+        op,
+        alu::is_on(flags as u32, 1),
+        d,
+        x,
+        Source::Scalar(immediate),
+    );
 }

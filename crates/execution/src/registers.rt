@@ -6,7 +6,9 @@ ghost use Rattle.execution.specs.Registers.{scalar, vector, withScalar, 
 
 // s59, s62 and s63.
 pub const LANE_MASK: u8 = 59;
+
 pub const LINK: u8 = 62;
+
 pub const PROGRAM_COUNTER: u8 = 63;
 
 pub fn scalar(room: &[u32], t: usize, i: u8) -> u32

@@ -53,7 +53,7 @@ unfolding withNumber
 kept-number zero m a w = refl
 kept-number (suc n) m a w = kept-number n (set m a (w % 2 ^ 8)) (a + 1) (w / 2 ^ 8) ∙ length-set m a (w % 2 ^ 8)
 
-kept-each : (n : ℕ) (g : ℕ → List ℕ → List ℕ) (m : List ℕ) → ((j : ℕ) (l : List ℕ) → length (g j l) ≡ length l) → length (each n g m) ≡ length m
+pub kept-each : (n : ℕ) (g : ℕ → List ℕ → List ℕ) (m : List ℕ) → ((j : ℕ) (l : List ℕ) → length (g j l) ≡ length l) → length (each n g m) ≡ length m
 unfolding each
 kept-each zero g m h = refl
 kept-each (suc n) g m h = h n (each n g m) ∙ kept-each n g m h
