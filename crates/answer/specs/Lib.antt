@@ -1,2 +1,3 @@
 -- What a call gives back: what the contracts of every crate cite.
 pub mod Answer
+pub mod Refusal

@@ -1,1 +1,8 @@
-// What a call gives back. All of it stands in specs/: there is no code.
+// What a call gives back: a value, or a number of document 01's table "Numbers given back".
+mod refusal;
+
+pub use refusal::Verdict;
+pub use refusal::bad_mask;
+pub use refusal::bad_memory;
+pub use refusal::bad_program;
+pub use refusal::bad_registers;

@@ -5,6 +5,6 @@ pub use Rattle.isa.specs.declared.instruction.StoreOp.{StoreOp}
 pub use Rattle.isa.specs.declared.instruction.StoreOp.the-variants.{Store8, Store16, Store32}
 pub use Rattle.isa.specs.declared.instruction.UnaryOp.the-variants.{Sext8, Sext16}
 pub use Rattle.memory.specs.declared.place.Place.{Place}
-pub use Rattle.memory.specs.declared.answer.Access.{Access}
-pub use Rattle.memory.specs.declared.answer.Loaded.{Loaded}
-pub use Rattle.memory.specs.declared.answer.LoadedLanes.{LoadedLanes}
+pub use Rattle.memory.specs.declared.outcome.Access.{Access}
+pub use Rattle.memory.specs.declared.outcome.Loaded.{Loaded}
+pub use Rattle.memory.specs.declared.outcome.LoadedLanes.{LoadedLanes}

@@ -5,10 +5,10 @@ ghost use Prim.Native.Nat.{_+_, _≤_};
 ghost use lib.ListN.{length};
 ghost use Rattle.memory.specs.Bytes.{withNumber};
 ghost use Rattle.memory.specs.Operation.{lanesAt, withLanes, loadLanes, ofLanes, outcome, storeLanes};
-use crate::answer::Access;
-use crate::answer::LoadedLanes;
 use crate::bytes::read32;
 use crate::bytes::write32;
+use crate::outcome::Access;
+use crate::outcome::LoadedLanes;
 use crate::place::Place;
 use crate::place::locate;
 

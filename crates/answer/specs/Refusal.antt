@@ -1,0 +1,47 @@
+-- When the table gives a number (document 01, "Numbers given back").
+use Prim.Native.Nat.{ℕ, _%_}
+use mathlib.Core.Bool.{Bool, _||_, not, cond}
+use mathlib.Core.List.{List, [], _∷_}
+use mathlib.Core.Option.{Option, none, some}
+use lib.Dec.{ltb, eqb}
+use Rattle.answer.specs.declared.refusal.Verdict.{Verdict}
+use Rattle.answer.specs.declared.refusal.Verdict.the-variants.{Accepted, Refused}
+
+-- "program has 0 or more than 16,384 words"
+abbrev pub badProgram : ℕ → Bool
+badProgram words = eqb words 0 || ltb 16384 words
+
+-- "register room is not 8,704 words"
+abbrev pub badRegisters : ℕ → Bool
+badRegisters words = not (eqb words 8704)
+
+-- "memory length is not allowed": "a multiple of 64, from 64 to 65,536"
+abbrev pub badMemory : ℕ → Bool
+badMemory bytes = ltb bytes 64 || ltb 65536 bytes || not (eqb (bytes % 64) 0)
+
+-- "start mask is 0 or above 255"
+abbrev pub badMask : ℕ → Bool
+badMask mask = eqb mask 0 || ltb 255 mask
+
+-- a number of the table, and whether it applies
+pub record Check : Type 0 where
+  pub number : ℕ
+  pub applies : Bool
+
+abbrev pub check : ℕ → Bool → Check
+check number applies = record { number = number; applies = applies }
+
+-- "A call checks in the order 1, 2, 3, 5, 9, 10, 4, as far as it takes these things, and the first that applies is given."
+unfoldable pub firstThatApplies : List Check → Option ℕ
+firstThatApplies [] = none
+firstThatApplies (c ∷ cs) = cond (c .applies) (some (c .number)) (firstThatApplies cs)
+
+-- the number of a refused call, as the code says it
+abbrev pub numbered : Verdict → Option ℕ
+numbered Accepted = none
+numbered (Refused number) = some number
+
+-- what a call gives: one thing if it is refused, by its number, and another if it is not
+abbrev pub refusedOr : {A : Type 0} → Option ℕ → (ℕ → A) → A → A
+refusedOr none r a = a
+refusedOr (some number) r a = r number

@@ -1,0 +1,4 @@
+-- Demand 3 and the claims of specs/, proved.
+pub use Rattle.interpreter.proofs.Starts.{starts, start-rooms}
+pub use Rattle.interpreter.proofs.Runs.{stays-well-formed, mask-stays, lengths-stay, within-budget, spends-budget, joins}
+pub use Rattle.interpreter.proofs.Fairness.{some-enabled, demand}

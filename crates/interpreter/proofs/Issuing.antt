@@ -1,0 +1,111 @@
+-- Laws of a run's issues, one at a time.
+use Prim.Native.Nat.{ℕ, zero, suc, _+_, _-_, _<_, _≤_}
+use mathlib.Core.Bool.{true}
+use mathlib.Core.List.{List, [], _∷_}
+use mathlib.Core.Path.{_≡_, refl, ap, _∙_}
+use native.Mathlib.Omega.{arith}
+use lib.ListN.{length}
+use Rattle.answer.specs.Answer.{given}
+use Rattle.execution.proofs.Claims.{performs, issues as execution-issues}
+use Rattle.execution.specs.Issue.{issue}
+use Rattle.execution.specs.State.{State, state}
+use Rattle.machine.proofs.Claims.{chooses, issues as machine-issues}
+use Rattle.machine.specs.Claims.{Sound}
+use Rattle.machine.specs.Scheduler.{choice, withLast}
+use Rattle.machine.specs.WellFormed.{wellFormed}
+use Rattle.interpreter.specs.Answer.{Ending, spent}
+use Rattle.interpreter.specs.Choosing.{issued, issues, reached, idleEnding, endingAt}
+use Rattle.interpreter.specs.Run.{accepted}
+use Rattle.interpreter.specs.Types.{Machine, Chosen, NoneRunning}
+
+-- the thread chosen is one of the eight
+pub chosen-thread : (m : Machine) (t d : ℕ) → choice m ≡ Chosen t d → t < 8
+chosen-thread m t d h = let f = chooses m t d .0 h in omega (arith, f .place)
+
+-- the call that performs an issue, on the record with which the thread chosen is issued
+pub issue-performed : (p : List ℕ) (s : State) (t d : ℕ) (m : Machine) → length p ≤ 16384 → length (s .registers) ≡ 8704
+    → choice (s .machine) ≡ Chosen t d → m ≡ withLast (s .machine) t → issue p (state m (s .registers) (s .memory)) t ≡ issued p s t
+unfolding issued
+issue-performed p s t d m words room h e =
+    ap (λ x. issue p (state x (s .registers) (s .memory)) t) e
+    ∙ execution-issues p (state (withLast (s .machine) t) (s .registers) (s .memory)) t words room (chosen-thread (s .machine) t d h)
+
+-- what an issue makes of the record
+pub issued-sound : (p : List ℕ) (s : State) (t : ℕ) → Sound (withLast (s .machine) t) t (issued p s t .machine)
+unfolding issued
+issued-sound p s t = performs p (state (withLast (s .machine) t) (s .registers) (s .memory)) t
+
+pub issued-well-formed : (p : List ℕ) (s : State) (t d : ℕ) → choice (s .machine) ≡ Chosen t d → wellFormed (s .machine) ≡ true
+    → wellFormed (issued p s t .machine) ≡ true
+issued-well-formed p s t d h w =
+    issued-sound p s t .well-formed (machine-issues (s .machine) t (chosen-thread (s .machine) t d h) w) (chooses (s .machine) t d .0 h .running)
+
+module _ (p : List ℕ) (s : State) where
+  -- where no thread is running, nothing is issued
+  module _ (h : choice (s .machine) ≡ NoneRunning) where
+    pub reached-none : (b : ℕ) → reached p b s ≡ s
+    unfolding reached
+    reached-none zero = refl
+    reached-none (suc b) = rw h
+
+    pub issues-none : (b : ℕ) → issues p b s ≡ []
+    unfolding issues
+    issues-none zero = refl
+    issues-none (suc b) = rw h
+
+    pub ending-none : endingAt s ≡ idleEnding (s .machine)
+    unfolding endingAt
+    ending-none = rw h
+
+  -- else the thread chosen is, if anything is left of the budget
+  module _ (t d : ℕ) (h : choice (s .machine) ≡ Chosen t d) where
+    pub reached-step : (b : ℕ) → reached p (suc b) s ≡ reached p b (issued p s t)
+    unfolding reached
+    reached-step b = rw h
+
+    pub issues-step : (b : ℕ) → issues p (suc b) s ≡ record { before = s; thread = t } ∷ issues p b (issued p s t)
+    unfolding issues
+    issues-step b = rw h
+
+    pub ending-some : endingAt s ≡ spent
+    unfolding endingAt
+    ending-some = rw h
+
+-- a run from `first` with the budget b has come to s, with so many issues made
+pub record Carried (p : List ℕ) (b : ℕ) (first : State) (made : ℕ) (s : State) : Type 0 where
+  pub state : reached p b first ≡ reached p (b - made) s
+  pub count : length (issues p b first) ≡ made + length (issues p (b - made) s)
+
+pub carried-start : (p : List ℕ) (b : ℕ) (s : State) → Carried p b s 0 s
+carried-start p b s =
+    let e : b - 0 ≡ b = omega arith in
+    record { state = rw e; count = rw e (omega arith) }
+
+module _ (p : List ℕ) (b : ℕ) (first : State) (made : ℕ) (s : State) (k : Carried p b first made s) where
+  -- one issue more
+  pub carried-step : (t d : ℕ) → choice (s .machine) ≡ Chosen t d → made < b → Carried p b first (made + 1) (issued p s t)
+  carried-step t d h l =
+      let e : b - made ≡ suc (b - (made + 1)) = omega arith in
+      let f : reached p (b - made) s ≡ reached p (b - (made + 1)) (issued p s t) = rw e (reached-step p s t d h (b - (made + 1))) in
+      let g : length (issues p (b - made) s) ≡ suc (length (issues p (b - (made + 1)) (issued p s t))) = rw e (ap length (issues-step p s t d h (b - (made + 1)))) in
+      record { state = k .state ∙ f; count = omega (arith, k .count, g) }
+
+  -- what the run answers, where it ends in s
+  ends : (e : Ending) → endingAt s ≡ e → reached p (b - made) s ≡ s → issues p (b - made) s ≡ []
+      → record { answer = given e; issues = made; left = s } ≡ accepted p b first
+  unfolding accepted
+  ends e a r i =
+      let f : reached p b first ≡ s = k .state ∙ r in
+      let g : length (issues p b first) ≡ made = omega (arith, k .count, ap length i) in
+      rw (f, g, a)
+
+  -- no thread is running
+  pub ends-idle : choice (s .machine) ≡ NoneRunning → record { answer = given (idleEnding (s .machine)); issues = made; left = s } ≡ accepted p b first
+  ends-idle h = ends (idleEnding (s .machine)) (ending-none p s h) (reached-none p s h (b - made)) (issues-none p s h (b - made))
+
+  -- a thread is running, and the issues made equal the budget
+  pub ends-spent : (t d : ℕ) → choice (s .machine) ≡ Chosen t d → made ≡ b → record { answer = given spent; issues = made; left = s } ≡ accepted p b first
+  unfolding reached issues
+  ends-spent t d h e =
+      let z : b - made ≡ 0 = omega arith in
+      ends spent (ending-some p s t d h) (rw z) (rw z)

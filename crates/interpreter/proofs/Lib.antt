@@ -1,0 +1,9 @@
+-- The laws that several proofs cite, and the proofs of the claims.
+pub mod Rooms
+pub mod Refusals
+pub mod Issuing
+pub mod RoundRobin
+pub mod Fairness
+pub mod Runs
+pub mod Starts
+pub mod Claims

@@ -1,0 +1,174 @@
+-- What a run keeps, and what two runs of one program make together.
+use Prim.Native.Nat.{ℕ, zero, suc, _+_, _≤_}
+use mathlib.Core.Bool.{Bool, true, false, cond}
+use mathlib.Core.List.{List, [], _∷_, _++_}
+use mathlib.Core.Option.{Option, none, some}
+use mathlib.Core.Path.{_≡_, refl, sym, ap, _∙_}
+use native.Mathlib.Omega.{arith}
+use lib.ListN.{length}
+use Rattle.answer.specs.Answer.{given, refused}
+use Rattle.execution.proofs.Claims.{lengths}
+use Rattle.execution.specs.State.{State, state}
+use Rattle.machine.specs.Scheduler.{choice, withLast, someWaits}
+use Rattle.machine.specs.WellFormed.{wellFormed}
+use Rattle.interpreter.specs.Answer.{stopped, stuck, spent}
+use Rattle.interpreter.specs.Choosing.{Issue, ifChosen, issued, issues, reached, idleEnding, endingAt}
+use Rattle.interpreter.specs.Claims.{StaysWellFormed, MaskStays, LengthsStay, WithinBudget, SpendsBudget, Joined, Joins}
+use Rattle.answer.specs.Refusal.{refusedOr}
+use Rattle.interpreter.specs.Run.{number, runIssues, runReached, runAnswer}
+use Rattle.interpreter.specs.Types.{Choice, Chosen, NoneRunning}
+use Rattle.interpreter.proofs.Issuing.{issued-sound, issued-well-formed, reached-none, issues-none, ending-none}
+use Rattle.interpreter.proofs.Refusals.{run-taken, taken-run}
+
+-- what each issue of the thread chosen keeps, a run keeps
+Kept : (State → Type 0) → List ℕ → Type 0
+Kept P p = (s : State) (t d : ℕ) → choice (s .machine) ≡ Chosen t d → P s → P (issued p s t)
+
+module _ (P : State → Type 0) (p : List ℕ) (each : Kept P p) where
+  reached-keeps : (b : ℕ) (s : State) → P s → P (reached p b s)
+  unfolding reached Kept
+  reached-keeps zero s h = h
+  reached-keeps (suc b) s h = go (choice (s .machine)) refl (λ t. reached-keeps b (issued p s t))
+    where
+      go : (c : Choice) → choice (s .machine) ≡ c → ((t : ℕ) → P (issued p s t) → P (reached p b (issued p s t)))
+          → P (ifChosen c (λ t. reached p b (issued p s t)) s)
+      go (Chosen t d) e more = more t (each s t d e h)
+      go NoneRunning e more = h
+
+  run-keeps : (b : ℕ) (s : State) → P s → P (runReached p b s)
+  unfolding runReached
+  run-keeps b s h = go (number p s)
+    where
+      go : (o : Option ℕ) → P (refusedOr o (λ n. s) (reached p b s))
+      go none = reached-keeps b s h
+      go (some n) = h
+
+well-formed-kept : (p : List ℕ) → Kept (λ s. wellFormed (s .machine) ≡ true) p
+unfolding Kept
+well-formed-kept p s t d e h = issued-well-formed p s t d e h
+
+mask-kept : (mask : ℕ) (p : List ℕ) → Kept (λ s. s .machine .enabled ≡ mask) p
+unfolding Kept
+mask-kept mask p s t d e h = issued-sound p s t .enabled ∙ h
+
+-- the lengths of the register room and of memory
+abbrev Sized : ℕ → ℕ → State → Type 0
+Sized room bytes s = (length (s .registers) ≡ room) × (length (s .memory) ≡ bytes)
+
+lengths-kept : (room bytes : ℕ) (p : List ℕ) → Kept (Sized room bytes) p
+unfolding Kept issued
+lengths-kept room bytes p s t d e h =
+    let r : State = state (withLast (s .machine) t) (s .registers) (s .memory) in
+    (lengths .of-registers p r t ∙ h .0, lengths .of-memory p r t ∙ h .1)
+
+pub stays-well-formed : StaysWellFormed
+stays-well-formed p b s h = run-keeps (λ x. wellFormed (x .machine) ≡ true) p (well-formed-kept p) b s h
+
+pub mask-stays : MaskStays
+mask-stays p b s = run-keeps (λ x. x .machine .enabled ≡ s .machine .enabled) p (mask-kept (s .machine .enabled) p) b s refl
+
+pub lengths-stay : LengthsStay
+lengths-stay p b s =
+    run-keeps (Sized (length (s .registers)) (length (s .memory))) p (lengths-kept (length (s .registers)) (length (s .memory)) p) b s (refl, refl)
+
+-- The number of issues.
+
+-- where no thread is running, the run does not answer spent
+idle-unspent : (s : State) → idleEnding (s .machine) ≡ spent → ⊥
+unfolding idleEnding
+idle-unspent s h = go (someWaits (s .machine)) h
+  where
+    go : (b : Bool) → cond b stuck stopped ≡ spent → ⊥
+    go true e = let z : _≡_ {A = ℕ} 0 1 = cc in omega arith
+    go false e = let z : _≡_ {A = ℕ} 0 1 = cc in omega arith
+
+module _ (p : List ℕ) where
+  issues-within : (b : ℕ) (s : State) → length (issues p b s) ≤ b
+  unfolding issues
+  issues-within zero s = omega arith
+  issues-within (suc b) s = go (choice (s .machine)) (λ t. issues-within b (issued p s t))
+    where
+      go : (c : Choice) → ((t : ℕ) → length (issues p b (issued p s t)) ≤ b)
+          → length (ifChosen c (λ t. record { before = s; thread = t } ∷ issues p b (issued p s t)) []) ≤ suc b
+      go (Chosen t d) more = let h = more t in omega arith
+      go NoneRunning more = omega arith
+
+  spent-whole : (b : ℕ) (s : State) → endingAt (reached p b s) ≡ spent → length (issues p b s) ≡ b
+  unfolding issues reached
+  spent-whole zero s h = refl
+  spent-whole (suc b) s h = go (choice (s .machine)) refl h (λ t. spent-whole b (issued p s t))
+    where
+      go : (c : Choice) → choice (s .machine) ≡ c → endingAt (ifChosen c (λ t. reached p b (issued p s t)) s) ≡ spent
+          → ((t : ℕ) → endingAt (reached p b (issued p s t)) ≡ spent → length (issues p b (issued p s t)) ≡ b)
+          → length (ifChosen c (λ t. record { before = s; thread = t } ∷ issues p b (issued p s t)) []) ≡ suc b
+      go (Chosen t d) e k more = ap suc (more t k)
+      go NoneRunning e k more = absurd (idle-unspent s (sym (ending-none p s e) ∙ k))
+
+pub within-budget : WithinBudget
+unfolding runIssues
+within-budget p b s = go (number p s)
+  where
+    go : (o : Option ℕ) → length (refusedOr o (λ n. []) (issues p b s)) ≤ b
+    go none = issues-within p b s
+    go (some n) = omega arith
+
+pub spends-budget : SpendsBudget
+unfolding runIssues runAnswer
+spends-budget p b s h = go (number p s) h
+  where
+    go : (o : Option ℕ) → refusedOr o refused (given (endingAt (reached p b s))) ≡ given spent
+        → length (refusedOr o (λ n. []) (issues p b s)) ≡ b
+    go none e = let f : endingAt (reached p b s) ≡ spent = cc in spent-whole p b s f
+    go (some n) e = absurd (let z : _≡_ {A = ℕ} 0 1 = cc in omega arith)
+
+-- Two runs.
+
+module _ (p : List ℕ) (m : ℕ) where
+  reached-add : (n : ℕ) (s : State) → reached p (n + m) s ≡ reached p m (reached p n s)
+  unfolding reached
+  reached-add zero s = let e : 0 + m ≡ m = omega arith in rw e
+  reached-add (suc n) s =
+      let e : suc n + m ≡ suc (n + m) = omega arith in
+      rw e (go (choice (s .machine)) refl (λ t. reached-add n (issued p s t)))
+    where
+      go : (c : Choice) → choice (s .machine) ≡ c → ((t : ℕ) → reached p (n + m) (issued p s t) ≡ reached p m (reached p n (issued p s t)))
+          → ifChosen c (λ t. reached p (n + m) (issued p s t)) s ≡ reached p m (ifChosen c (λ t. reached p n (issued p s t)) s)
+      go (Chosen t d) e more = more t
+      go NoneRunning e more = sym (reached-none p s e m)
+
+  issues-add : (n : ℕ) (s : State) → issues p (n + m) s ≡ issues p n s ++ issues p m (reached p n s)
+  unfolding issues reached
+  issues-add zero s = let e : 0 + m ≡ m = omega arith in rw e
+  issues-add (suc n) s =
+      let e : suc n + m ≡ suc (n + m) = omega arith in
+      rw e (go (choice (s .machine)) refl (λ t. issues-add n (issued p s t)))
+    where
+      go : (c : Choice) → choice (s .machine) ≡ c
+          → ((t : ℕ) → issues p (n + m) (issued p s t) ≡ issues p n (issued p s t) ++ issues p m (reached p n (issued p s t)))
+          → ifChosen c (λ t. record { before = s; thread = t } ∷ issues p (n + m) (issued p s t)) []
+          ≡ ifChosen c (λ t. record { before = s; thread = t } ∷ issues p n (issued p s t)) [] ++ issues p m (ifChosen c (λ t. reached p n (issued p s t)) s)
+      go (Chosen t d) e more = ap {B = List Issue} (λ is. record { before = s; thread = t } ∷ is) (more t)
+      go NoneRunning e more = sym (issues-none p s e m)
+
+-- a run that is not refused reaches a state from which none of its program is
+taken-still : (p : List ℕ) (b : ℕ) (s : State) → number p s ≡ none → number p (reached p b s) ≡ none
+taken-still p b s h =
+    let k = run-taken (length p) (length (s .registers)) (length (s .memory)) (s .machine) h in
+    let l = reached-keeps (Sized (length (s .registers)) (length (s .memory))) p (lengths-kept (length (s .registers)) (length (s .memory)) p) b s (refl, refl) in
+    let w = reached-keeps (λ x. wellFormed (x .machine) ≡ true) p (well-formed-kept p) b s (k .well-formed) in
+    taken-run (length p) (length (reached p b s .registers)) (length (reached p b s .memory)) (reached p b s .machine)
+    (record { program = k .program; registers = rw (l .0) (k .registers); memory = rw (l .1) (k .memory); well-formed = w })
+
+pub joins : Joins
+unfolding runIssues runReached runAnswer
+joins p n m s = go (number p s) refl
+  where
+    go : (o : Option ℕ) → number p s ≡ o → Joined p n m s
+    go none e =
+        let f = taken-still p n s e in
+        record {
+          issues = rw (e, f) (issues-add p m n s);
+          reached = rw (e, f) (reached-add p m n s);
+          answer = rw (e, f) (ap (λ x. given (endingAt x)) (reached-add p m n s));
+        }
+    go (some k) e = record { issues = rw (e, e); reached = rw (e, e); answer = rw (e, e) }

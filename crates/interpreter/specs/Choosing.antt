@@ -1,0 +1,43 @@
+-- The issues of a run, written down one after the other (document 01, "Choosing and counting issues").
+use Prim.Native.Nat.{ℕ, zero, suc}
+use mathlib.Core.Bool.{cond}
+use mathlib.Core.List.{List, [], _∷_}
+use Rattle.execution.specs.Issue.{perform}
+use Rattle.execution.specs.State.{State, state}
+use Rattle.machine.specs.Scheduler.{choice, withLast, someWaits}
+use Rattle.interpreter.specs.Answer.{Ending, stopped, stuck, spent}
+use Rattle.interpreter.specs.Types.{Machine, Choice, Chosen, NoneRunning}
+
+-- "each is written as the state before it and the thread issued"
+pub record Issue : Type 0 where
+  pub before : State
+  pub thread : ℕ
+
+-- the thread "is issued, once, and becomes "last""
+unfoldable pub issued : List ℕ → State → ℕ → State
+issued p s t = perform p (state (withLast (s .machine) t) (s .registers) (s .memory)) t
+
+-- by "the first running thread after "last"", if a thread is running
+abbrev pub ifChosen : {A : Type 0} → Choice → (ℕ → A) → A → A
+ifChosen (Chosen thread distance) f x = f thread
+ifChosen NoneRunning f x = x
+
+-- "Any other adds its issues in order, by the rules for choosing and for one issue, until those rules give an answer":
+-- the issues from a state, with so many left in the budget. "A trapping issue counts."
+unfoldable pub issues : List ℕ → ℕ → State → List Issue
+issues p zero s = []
+issues p (suc left) s = ifChosen (choice (s .machine)) (λ t. record { before = s; thread = t } ∷ issues p left (issued p s t)) []
+
+-- "the state reached"
+unfoldable pub reached : List ℕ → ℕ → State → State
+reached p zero s = s
+reached p (suc left) s = ifChosen (choice (s .machine)) (λ t. reached p left (issued p s t)) s
+
+-- "if no thread is running, the run answers stuck if one waits, else stopped."
+unfoldable pub idleEnding : Machine → Ending
+idleEnding m = cond (someWaits m) stuck stopped
+
+-- "Otherwise, if the issues made equal the budget, it answers spent."
+-- Where a thread is running in the state reached, they do: Claims has it as `SpendsBudget`.
+unfoldable pub endingAt : State → Ending
+endingAt s = ifChosen (choice (s .machine)) (λ t. spent) (idleEnding (s .machine))

@@ -1,0 +1,66 @@
+-- What is proved of the definitions, for other crates to cite.
+use Prim.Native.Nat.{ℕ, _+_, _<_, _≤_}
+use mathlib.Core.Bool.{true}
+use mathlib.Core.List.{List, _++_}
+use mathlib.Core.Path.{_≡_}
+use lib.ListN.{length, getD}
+use Rattle.answer.specs.Answer.{given}
+use Rattle.execution.specs.State.{State}
+use Rattle.machine.specs.WellFormed.{wellFormed}
+use Rattle.interpreter.specs.Answer.{spent}
+use Rattle.interpreter.specs.Demand.{enabledThreads}
+use Rattle.interpreter.specs.Run.{runIssues, runReached, runAnswer}
+use Rattle.execution.specs.Registers.{scalarPlace}
+use Rattle.interpreter.specs.Start.{start}
+use Rattle.interpreter.specs.Types.{Machine}
+
+-- A start.
+
+-- a start that is not refused makes a well-formed record with the mask's threads enabled
+abbrev pub Starts : Type 0
+Starts = (mask : ℕ) (room : List ℕ) → start mask room .answer ≡ given tt
+    → (wellFormed (start mask room .machine) ≡ true) × (start mask room .machine .enabled ≡ mask)
+
+-- and a register room in which every s59 is 0xFFFF, and every other word 0
+pub record StartRoom (mask : ℕ) (room : List ℕ) : Type 0 where
+  pub size : length (start mask room .registers) ≡ 8704
+  pub masks : (t : ℕ) → t < 8 → getD (start mask room .registers) (scalarPlace t 59) 0 ≡ 0xFFFF
+  pub zeros : (i : ℕ) → ((t : ℕ) → t < 8 → i ≡ scalarPlace t 59 → ⊥) → getD (start mask room .registers) i 0 ≡ 0
+
+abbrev pub StartRooms : Type 0
+StartRooms = (mask : ℕ) (room : List ℕ) → start mask room .answer ≡ given tt → StartRoom mask room
+
+-- A run of a program p, with a budget b, from a state s.
+
+-- a well-formed record stays so
+abbrev pub StaysWellFormed : Type 0
+StaysWellFormed = (p : List ℕ) (b : ℕ) (s : State) → wellFormed (s .machine) ≡ true → wellFormed (runReached p b s .machine) ≡ true
+
+-- "E is the number of enabled bits; no run changes them."
+abbrev pub MaskStays : Type 0
+MaskStays = (p : List ℕ) (b : ℕ) (s : State) → runReached p b s .machine .enabled ≡ s .machine .enabled
+
+-- and in a well-formed record there is one, so that W divided by E means something
+abbrev pub SomeEnabled : Type 0
+SomeEnabled = (m : Machine) → wellFormed m ≡ true → 1 ≤ enabledThreads m
+
+-- no lent buffer changes its length
+abbrev pub LengthsStay : Type 0
+LengthsStay = (p : List ℕ) (b : ℕ) (s : State)
+    → (length (runReached p b s .registers) ≡ length (s .registers)) × (length (runReached p b s .memory) ≡ length (s .memory))
+
+-- it makes at most as many issues as its budget, and as many if it answers spent
+abbrev pub WithinBudget : Type 0
+WithinBudget = (p : List ℕ) (b : ℕ) (s : State) → length (runIssues p b s) ≤ b
+
+abbrev pub SpendsBudget : Type 0
+SpendsBudget = (p : List ℕ) (b : ℕ) (s : State) → runAnswer p b s ≡ given spent → length (runIssues p b s) ≡ b
+
+-- two runs of a program, one after the other with budgets n and m, are one with the budget n + m
+pub record Joined (p : List ℕ) (n m : ℕ) (s : State) : Type 0 where
+  pub issues : runIssues p (n + m) s ≡ runIssues p n s ++ runIssues p m (runReached p n s)
+  pub reached : runReached p (n + m) s ≡ runReached p m (runReached p n s)
+  pub answer : runAnswer p (n + m) s ≡ runAnswer p m (runReached p n s)
+
+abbrev pub Joins : Type 0
+Joins = (p : List ℕ) (n m : ℕ) (s : State) → Joined p n m s

@@ -1,0 +1,48 @@
+-- What a run hands back and leaves (document 01, "Numbers given back" and "Choosing and counting issues").
+use Prim.Native.Nat.{ℕ}
+use mathlib.Core.List.{List, []}
+use mathlib.Core.Option.{Option}
+use lib.ListN.{length}
+use Rattle.answer.specs.Answer.{Answer, given, refused}
+use Rattle.execution.specs.State.{State, state}
+use Rattle.interpreter.specs.Answer.{Ending, answered}
+use Rattle.interpreter.specs.Choosing.{Issue, issues, reached, endingAt}
+use Rattle.answer.specs.Refusal.{refusedOr}
+use Rattle.interpreter.specs.Refusal.{runNumber}
+use Rattle.interpreter.specs.Types.{Run}
+
+-- the number that the table gives a run of a program from a state
+abbrev pub number : List ℕ → State → Option ℕ
+number p s = runNumber (length p) (length (s .registers)) (length (s .memory)) (s .machine)
+
+-- Of a run of a program, with a budget, from a state.
+
+-- "A run to which the table gives a number adds none and changes nothing." "A refused run reports 0 issues"
+unfoldable pub runIssues : List ℕ → ℕ → State → List Issue
+runIssues p b s = refusedOr (number p s) (λ n. []) (issues p b s)
+
+-- "A refusal changes no lent buffer and hands back the record it got"
+unfoldable pub runReached : List ℕ → ℕ → State → State
+runReached p b s = refusedOr (number p s) (λ n. s) (reached p b s)
+
+-- "its answer is the one the rules for choosing give there, or the table's number"
+unfoldable pub runAnswer : List ℕ → ℕ → State → Answer Ending
+runAnswer p b s = refusedOr (number p s) refused (given (endingAt (reached p b s)))
+
+-- an answer, a number of issues, and the machine handed back or left
+pub record Outcome : Type 0 where
+  pub answer : Answer Ending
+  pub issues : ℕ
+  pub left : State
+
+abbrev pub outcome : Run → List ℕ → List ℕ → Outcome
+outcome r registers memory = record { answer = answered (r .answer); issues = r .issues; left = state (r .machine) registers memory }
+
+-- "The number a run reports is the number of issues it added, its answer is the one the rules for choosing give there, or the
+-- table's number, and the machine it hands back or leaves is the state reached."
+unfoldable pub run : List ℕ → ℕ → State → Outcome
+run p b s = record { answer = runAnswer p b s; issues = length (runIssues p b s); left = runReached p b s }
+
+-- the same of a run that is not refused
+unfoldable pub accepted : List ℕ → ℕ → State → Outcome
+accepted p b s = record { answer = given (endingAt (reached p b s)); issues = length (issues p b s); left = reached p b s }

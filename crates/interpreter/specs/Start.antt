@@ -1,0 +1,37 @@
+-- What a start makes (document 01, "What a machine holds").
+use Prim.Native.Nat.{ℕ, zero, suc}
+use mathlib.Core.List.{List, map}
+use lib.ListN.{length}
+use Rattle.answer.specs.Answer.{Answer, given, refused}
+use Rattle.execution.specs.Registers.{withScalar}
+use Rattle.machine.specs.Machine.{zeroed, start as startRecord}
+use Rattle.interpreter.specs.Answer.{startAnswered}
+use Rattle.answer.specs.Refusal.{refusedOr}
+use Rattle.interpreter.specs.Refusal.{startNumber}
+use Rattle.interpreter.specs.Types.{Machine, Start}
+
+-- "zeroes the register room"
+abbrev pub zeroes : List ℕ → List ℕ
+zeroes room = map (λ word. 0) room
+
+-- "sets every s59 to 0xFFFF": of the first n threads
+unfoldable pub withMasks : ℕ → List ℕ → List ℕ
+withMasks zero room = room
+withMasks (suc t) room = withScalar (withMasks t room) t 59 0xFFFF
+
+-- what a start hands back and leaves
+pub record Beginning : Type 0 where
+  pub answer : Answer (Unit {0})
+  pub machine : Machine
+  pub registers : List ℕ
+
+abbrev pub started : Start → List ℕ → Beginning
+started r room = record { answer = startAnswered (r .answer); machine = r .machine; registers = room }
+
+-- "Start takes an enabled mask, zeroes the register room, sets every s59 to 0xFFFF, makes enabled threads running and last 7."
+-- "A refusal changes no lent buffer .. start and image reading, which get none, hand back a record with every number 0."
+unfoldable pub start : ℕ → List ℕ → Beginning
+start mask room =
+    refusedOr (startNumber mask (length room))
+    (λ number. record { answer = refused number; machine = zeroed; registers = room })
+    (record { answer = given tt; machine = startRecord mask; registers = withMasks 8 (zeroes room) })

@@ -1,0 +1,120 @@
+// A program is run.
+ghost use Prim.Native.Nat.{_≤_};
+ghost use mathlib.Core.Bool.{cond};
+ghost use mathlib.Core.Path.{_≡_};
+ghost use lib.ListN.{length};
+ghost use Rattle.answer.specs.Answer.{given};
+ghost use Rattle.answer.specs.Refusal.{numbered};
+ghost use Rattle.execution.specs.State.{state};
+ghost use Rattle.interpreter.specs.Answer.{stopped, stuck, spent, answered};
+ghost use Rattle.interpreter.specs.Choosing.{idleEnding};
+ghost use Rattle.interpreter.specs.Refusal.{runNumber};
+ghost use Rattle.interpreter.specs.Run.{outcome, accepted, run};
+use crate::outcome::Run;
+use crate::outcome::RunAnswer;
+use answer::Verdict;
+use answer::bad_memory;
+use answer::bad_program;
+use answer::bad_registers;
+use machine::Choice;
+use machine::Machine;
+
+// The number that a run is refused with, if any: of the words of its program and register room, the bytes of its memory, and its record.
+fn run_verdict(words: usize, room: usize, bytes: usize, machine: Machine) -> Verdict
+    ensures { λ r. ⌜ numbered r ≡ runNumber words room bytes machine ⌝ }
+{
+    let wrong_program = bad_program(words);
+    let wrong_room = bad_registers(room);
+    let wrong_memory = bad_memory(bytes);
+    let well_formed = machine.well_formed();
+    if wrong_program {
+        return Verdict::Refused(1);
+    }
+    if wrong_room {
+        return Verdict::Refused(2);
+    }
+    if wrong_memory {
+        return Verdict::Refused(3);
+    }
+    if well_formed {
+        return Verdict::Accepted;
+    }
+    Verdict::Refused(4)
+}
+
+// What a run answers where nothing more is issued: whether a thread is running, and whether one waits.
+fn answer_of(running: bool, waits: bool) -> RunAnswer
+    ensures { λ r. ⌜ answered r ≡ given (cond running spent (cond waits stuck stopped)) ⌝ }
+{
+    if running {
+        return RunAnswer::Spent;
+    }
+    if waits {
+        return RunAnswer::Stuck;
+    }
+    RunAnswer::Stopped
+}
+
+// What it hands back there.
+fn ended(machine: Machine, running: bool, made: u32) -> Run
+    ensures { λ r. ⌜ (answered (r .answer) ≡ given (cond running spent (idleEnding machine))) × (r .issues ≡ made) × (r .machine ≡ machine) ⌝ }
+{
+    let waits = machine.some_waits();
+    Run {
+        answer: answer_of(running, waits),
+        issues: made,
+        machine,
+    }
+}
+
+// The issues of a run that is not refused.
+fn make_issues(
+    program: &[u32],
+    registers: &mut [u32],
+    memory: &mut [u8],
+    mut machine: Machine,
+    budget: u32,
+) -> Run
+    requires { ⌜ (length (now program) ≤ 16384) × (length (now registers) ≡ 8704) ⌝ }
+    ensures { λ r. ⌜ outcome r (now (registers .exit)) (now (memory .exit)) ≡ accepted (now (program .entry)) budget (state machine (now (registers .entry)) (now (memory .entry))) ⌝ }
+{
+    let mut made: u32 = 0;
+    loop {
+        let turn = machine.choose();
+        let choice = turn.choice;
+        let next = turn.machine;
+        match choice {
+            Choice::NoneRunning => {
+                return ended(machine, false, made);
+            }
+            Choice::Chosen { thread, .. } => {
+                if made == budget {
+                    return ended(machine, true, made);
+                }
+                machine = execution::issue(program, registers, memory, next, thread);
+                made += 1;
+            }
+        }
+    }
+}
+
+// A program is run until it stops, is stuck, or has spent its budget of issues.
+pub fn run(
+    program: &[u32],
+    registers: &mut [u32],
+    memory: &mut [u8],
+    machine: Machine,
+    budget: u32,
+) -> Run
+    ensures { λ r. ⌜ outcome r (now (registers .exit)) (now (memory .exit)) ≡ run (now (program .entry)) budget (state machine (now (registers .entry)) (now (memory .entry))) ⌝ }
+{
+    let verdict = run_verdict(program.len(), registers.len(), memory.len(), machine);
+    match verdict {
+        Verdict::Refused(number) => Run {
+            answer: RunAnswer::Refused(number),
+            issues: 0,
+            machine,
+        },
+        Verdict::Accepted => make_issues(program, registers, memory, machine, budget),
+    }
+}
