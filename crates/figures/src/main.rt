@@ -1,0 +1,157 @@
+// The interpreter's test program: runs the figures of document 01 that are run, and prints what happened, a line a figure.
+ghost use mathlib.Core.Path.{_≡_};
+ghost use Prim.Native.Nat.{_<_};
+ghost use lib.ListN.{length};
+use interpreter::Run;
+use interpreter::RunAnswer;
+use libc::STDOUT_FILENO;
+use machine::Status;
+
+fn say(text: &[u8]) {
+    io::write_all(STDOUT_FILENO, text);
+}
+
+fn say_number(n: u32) {
+    io::print_decimal(STDOUT_FILENO, n as u64);
+}
+
+fn say_ending(run: Run) {
+    let answer = run.answer;
+    match answer {
+        RunAnswer::Stopped => say(b"stopped"),
+        RunAnswer::Stuck => say(b"stuck"),
+        RunAnswer::Spent => say(b"spent"),
+        RunAnswer::Refused(number) => {
+            say(b"refused ");
+            say_number(number as u32);
+        }
+    }
+    say(b" after ");
+    say_number(run.issues);
+    say(b"\n");
+}
+
+// Starts the threads of a mask and runs a program once, on 64 bytes of memory.
+fn run_once(registers: &mut [u32], program: &[u32], mask: u32, budget: u32) {
+    let started = interpreter::start(mask, registers);
+    let mut memory = [0u8; 64];
+    let machine = started.machine;
+    let run = interpreter::run(program, registers, &mut memory, machine, budget);
+    say_ending(run);
+}
+
+fn set(registers: &mut [u32], i: usize, x: u32)
+    requires { ⌜ i < length (now registers) ⌝ }
+{
+    registers[i] = x;
+}
+
+// v1[j] = j, v3[j] = 7
+fn set_lanes(registers: &mut [u32])
+    requires { ⌜ length (now registers) ≡ 8704 ⌝ }
+{
+    for j in 0..16usize {
+        set(registers, 528 + j, j as u32);
+        set(registers, 560 + j, 7);
+    }
+}
+
+fn say_lanes(registers: &[u32])
+    requires { ⌜ length (now registers) ≡ 8704 ⌝ }
+{
+    for j in 0..16usize {
+        say(b" ");
+        say_number(registers[560 + j]);
+    }
+}
+
+// "s59 = 5, v1[j] = j, s2 = 10, v3 all 7: add v3,v1,s2 gives 10 and 12 in lanes 0 and 2, else 7."
+fn masked_add(registers: &mut [u32])
+    requires { ⌜ length (now registers) ≡ 8704 ⌝ }
+{
+    let started = interpreter::start(1, registers);
+    set(registers, 59, 5);
+    set(registers, 2, 10);
+    set_lanes(registers);
+    let mut memory = [0u8; 64];
+    let machine = started.machine;
+    interpreter::run(&[0x040C108C], registers, &mut memory, machine, 1);
+    say_lanes(registers);
+    say(b"\n");
+}
+
+fn say_status(status: Status) {
+    match status {
+        Status::Running => say(b"good\n"),
+        Status::Trapped(reason) => {
+            say(b"reason ");
+            say_number(reason as u32);
+            say(b"\n");
+        }
+        Status::Idle => say(b"idle\n"),
+        Status::Ended => say(b"ended\n"),
+        Status::Waiting(_, _) => say(b"waiting\n"),
+    }
+}
+
+// "Memory 64, load32: address 60 good, 62 reason 1, 64 and -4 reason 2, base 0xFFFFFFFC plus 4 reason 2." s1 is the base.
+fn load(registers: &mut [u32], word: u32, base: u32)
+    requires { ⌜ length (now registers) ≡ 8704 ⌝ }
+{
+    let started = interpreter::start(1, registers);
+    set(registers, 1, base);
+    let mut memory = [0u8; 64];
+    let machine = started.machine;
+    let run = interpreter::run(&[word], registers, &mut memory, machine, 1);
+    let after = run.machine;
+    say_status(after.status_at(0));
+}
+
+// "0x70000000 alone, mask 7, budget 7: issues 0,1,2,0,1,2,0, spent." One issue at a time, so that each thread is seen.
+fn issue_order(registers: &mut [u32]) {
+    let started = interpreter::start(7, registers);
+    let mut memory = [0u8; 64];
+    let mut machine = started.machine;
+    for _ in 0..7usize {
+        let run = interpreter::run(&[0x70000000], registers, &mut memory, machine, 1);
+        machine = run.machine;
+        say(b" ");
+        say_number(machine.last as u32);
+    }
+    say(b", ");
+}
+
+fn main() {
+    let mut registers = [0u32; 8704];
+    say(b"s59 = 5, v1[j] = j, s2 = 10, v3 all 7: add v3,v1,s2 gives");
+    masked_add(&mut registers);
+    say(b"memory 64, load32 at 60: ");
+    load(&mut registers, 0x82081000, 60);
+    say(b"memory 64, load32 at 62: ");
+    load(&mut registers, 0x82081000, 62);
+    say(b"memory 64, load32 at 64: ");
+    load(&mut registers, 0x82081000, 64);
+    say(b"memory 64, load32 at -4: ");
+    load(&mut registers, 0x82081FE0, 0);
+    say(b"memory 64, load32 at 0xFFFFFFFC plus 4: ");
+    load(&mut registers, 0x82081020, 0xFFFFFFFC);
+    say(b"0x70000000, mask 7, budget 7: issues");
+    issue_order(&mut registers);
+    run_once(&mut registers, &[0x70000000], 7, 7);
+    say(b"0x70000000, mask 7, budget 0: ");
+    run_once(&mut registers, &[0x70000000], 7, 0);
+    say(b"0x62040004 0x78001000 0x7A000000, mask 3, budget 100: ");
+    run_once(
+        &mut registers,
+        &[0x62040004, 0x78001000, 0x7A000000],
+        3,
+        100,
+    );
+    say(b"0x62040004 0x78001000 0x7A000000, mask 1, budget 100: ");
+    run_once(
+        &mut registers,
+        &[0x62040004, 0x78001000, 0x7A000000],
+        1,
+        100,
+    );
+}
