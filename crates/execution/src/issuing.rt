@@ -25,7 +25,8 @@ fn meet(registers: &mut [u32], machine: Machine, t: usize, pc: u32, id: u32, sec
     ensures { λ r. ⌜ (r ≡ meet machine t id second .machine) × (now (registers .exit) ≡ afterMeeting pc t (now (registers .entry)) (meet machine t id second)) ⌝ }
 {
     let met = machine.meet(t, id, second);
-    if met.trapped {
+    let trapped = met.trapped;
+    if trapped {
         return met.machine;
     }
     registers::advance(registers, t, pc);

@@ -2,3 +2,4 @@
 pub use Rattle.interpreter.proofs.Starts.{starts, start-rooms}
 pub use Rattle.interpreter.proofs.Runs.{stays-well-formed, mask-stays, lengths-stay, within-budget, spends-budget, joins}
 pub use Rattle.interpreter.proofs.Fairness.{some-enabled, demand}
+pub use Rattle.interpreter.proofs.Figures.{figures-hold}

@@ -6,4 +6,5 @@ pub mod RoundRobin
 pub mod Fairness
 pub mod Runs
 pub mod Starts
+pub mod Figures
 pub mod Claims

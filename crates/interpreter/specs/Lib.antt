@@ -7,3 +7,4 @@ pub mod Choosing
 pub mod Run
 pub mod Demand
 pub mod Claims
+pub mod Figures

@@ -8,3 +8,12 @@ pub use Rattle.interpreter.specs.declared.outcome.Run.{Run}
 pub use Rattle.machine.specs.declared.record.Machine.{Machine}
 pub use Rattle.machine.specs.declared.scheduler.Choice.{Choice}
 pub use Rattle.machine.specs.declared.scheduler.Choice.the-variants.{Chosen, NoneRunning}
+pub use Rattle.isa.specs.declared.instruction.BinaryOp.the-variants.{Add, Mullo, Mulhi, Mulhu, Ashr}
+pub use Rattle.isa.specs.declared.instruction.UnaryOp.the-variants.{Clz}
+pub use Rattle.isa.specs.declared.instruction.CompareOp.the-variants.{Lt, Ult}
+pub use Rattle.isa.specs.declared.instruction.Operation.the-variants.{Binary, Compare}
+pub use Rattle.isa.specs.declared.instruction.MoveiOp.the-variants.{Whole}
+pub use Rattle.isa.specs.declared.instruction.LoadOp.the-variants.{Load32}
+pub use Rattle.isa.specs.declared.instruction.MemoryOp.the-variants.{Load}
+pub use Rattle.isa.specs.declared.instruction.Instruction.{Instruction}
+pub use Rattle.isa.specs.declared.instruction.Instruction.the-variants.{R, I, Movei, M}

@@ -10,4 +10,3 @@ pub mod Signed
 pub mod Formats
 pub mod RoundTrip
 pub mod Ranges
-pub mod Figures

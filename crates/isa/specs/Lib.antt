@@ -11,4 +11,3 @@ pub mod Read
 pub mod Write
 pub mod Name
 pub mod Claims
-pub mod Figures
