@@ -1,0 +1,452 @@
+//! Issues and runs (document 01, "Choosing and counting issues" and "One issue").
+
+use crate::machine::{memory_allowed, Record, Status, ROOM_WORDS};
+use crate::word::{is_binary, is_compare, read, Instruction, Reading};
+
+#[derive(Clone, Copy, PartialEq, Eq, Debug)]
+pub enum Ending {
+    Stopped,
+    Stuck,
+    Spent,
+}
+
+/// What an instruction leads to, if it does not trap.
+enum Next {
+    On,
+    To(u32),
+    Ended,
+    Meets(u32, u32),
+}
+
+/// One thread's view of the machine in an issue.
+struct Issue<'a> {
+    words: usize,
+    room: &'a mut [u32],
+    memory: &'a mut [u8],
+    enabled: u8,
+    t: usize,
+    pc: u32,
+}
+
+/// An operand: "A scalar among vectors counts as sixteen equal lanes."
+#[derive(Clone, Copy)]
+enum Operand {
+    Scalar(u32),
+    Lanes([u32; 16]),
+}
+
+impl Operand {
+    fn scalar(self) -> u32 {
+        match self {
+            Operand::Scalar(x) => x,
+            Operand::Lanes(_) => unreachable!("no line has a vector here"),
+        }
+    }
+
+    fn lane(self, j: usize) -> u32 {
+        match self {
+            Operand::Scalar(x) => x,
+            Operand::Lanes(v) => v[j],
+        }
+    }
+}
+
+fn binary(opcode: u8, x: u32, y: u32) -> u32 {
+    let shift = y & 31;
+    match opcode {
+        1 => x | y,
+        2 => x & y,
+        3 => x ^ y,
+        4 => x.wrapping_add(y),
+        5 => x.wrapping_sub(y),
+        6 => x.wrapping_mul(y),
+        7 => ((x as i32 as i64 * y as i32 as i64) >> 32) as u32,
+        8 => ((x as u64 * y as u64) >> 32) as u32,
+        9 => ((x as i32) >> shift) as u32,
+        10 => x >> shift,
+        11 => x << shift,
+        _ => unreachable!("no such line"),
+    }
+}
+
+fn unary(opcode: u8, x: u32) -> u32 {
+    match opcode {
+        12 => (0..32).take_while(|k| x >> (31 - k) & 1 == 0).count() as u32,
+        13 => (0..32).take_while(|k| x >> k & 1 == 0).count() as u32,
+        32 => x,
+        43 => x as u8 as i8 as i32 as u32,
+        44 => x as u16 as i16 as i32 as u32,
+        _ => unreachable!("no such line"),
+    }
+}
+
+fn compare(opcode: u8, x: u32, y: u32) -> bool {
+    let (sx, sy) = (x as i32, y as i32);
+    match opcode {
+        14 => x == y,
+        15 => x != y,
+        16 => sx > sy,
+        17 => sx >= sy,
+        18 => sx < sy,
+        19 => sx <= sy,
+        20 => x > y,
+        21 => x >= y,
+        22 => x < y,
+        23 => x <= y,
+        _ => unreachable!("no such line"),
+    }
+}
+
+impl Issue<'_> {
+    fn s(&self, i: u8) -> u32 {
+        self.room[64 * self.t + i as usize]
+    }
+
+    fn set_s(&mut self, i: u8, x: u32) {
+        self.room[64 * self.t + i as usize] = x;
+    }
+
+    fn v(&self, i: u8) -> [u32; 16] {
+        std::array::from_fn(|j| self.room[512 + 1024 * self.t + 16 * i as usize + j])
+    }
+
+    /// "a vector destination changes in lanes that are on"
+    fn set_v(&mut self, i: u8, v: [u32; 16]) {
+        let mask = self.s(59);
+        for (j, x) in v.into_iter().enumerate() {
+            if mask >> j & 1 == 1 {
+                self.room[512 + 1024 * self.t + 16 * i as usize + j] = x;
+            }
+        }
+    }
+
+    fn operand(&self, is_vector: bool, i: u8) -> Operand {
+        if is_vector {
+            Operand::Lanes(self.v(i))
+        } else {
+            Operand::Scalar(self.s(i))
+        }
+    }
+
+    fn operate(&mut self, opcode: u8, d_is_vector: bool, d: u8, a: Operand, b: Operand) {
+        if is_compare(opcode) {
+            let answer = match (a, b) {
+                (Operand::Scalar(x), Operand::Scalar(y)) => compare(opcode, x, y) as u32,
+                _ => (0..16).map(|j| (self.s(59) >> j & 1) * compare(opcode, a.lane(j), b.lane(j)) as u32 * (1 << j)).sum(),
+            };
+            self.set_s(d, answer);
+        } else if opcode == 24 {
+            self.set_v(d, std::array::from_fn(|j| a.lane((b.lane(j) % 16) as usize)));
+        } else if opcode == 25 {
+            self.set_s(d, a.lane((b.scalar() % 16) as usize));
+        } else {
+            let one = |x, y| if is_binary(opcode) { binary(opcode, x, y) } else { unary(opcode, x) };
+            if d_is_vector {
+                self.set_v(d, std::array::from_fn(|j| one(a.lane(j), b.lane(j))));
+            } else {
+                self.set_s(d, one(a.scalar(), b.scalar()));
+            }
+        }
+    }
+
+    fn move_immediate(&mut self, opcode: u8, is_vector: bool, d: u8, n: u32) {
+        let moved = |old: u32| match opcode {
+            0 => old & 0xFFFF_0000 | n,
+            1 => old & 0x0000_FFFF | n << 16,
+            _ => n,
+        };
+        if is_vector {
+            self.set_v(d, self.v(d).map(moved));
+        } else {
+            self.set_s(d, moved(self.s(d)));
+        }
+    }
+
+    /// "A taken target that is negative, not a multiple of 4, or at or past the program's end traps with 4."
+    fn target(&self, address: i64) -> Result<u32, u8> {
+        if address < 0 || address % 4 != 0 || address >= 4 * self.words as i64 {
+            Err(4)
+        } else {
+            Ok(address as u32)
+        }
+    }
+
+    fn jump(&mut self, opcode: u8, register: u8, offset: i32) -> Result<Next, u8> {
+        let away = self.pc as i64 + offset as i64;
+        match opcode {
+            0 => Ok(Next::To(self.target(away)?)),
+            1 => {
+                let to = self.target(away)?;
+                self.set_s(62, self.pc + 4);
+                Ok(Next::To(to))
+            }
+            2 => Ok(Next::To(self.target(self.s(62) as i64)?)),
+            _ => {
+                let is_zero = self.s(register) == 0;
+                if is_zero == (opcode == 5) {
+                    Ok(Next::To(self.target(away)?))
+                } else {
+                    Ok(Next::On)
+                }
+            }
+        }
+    }
+
+    fn control(&mut self, opcode: u8, first: u8, second: u8) -> Result<Next, u8> {
+        match opcode {
+            0 => Ok(Next::Meets(self.s(first), self.s(second))),
+            1 => {
+                let value = match self.s(second) {
+                    0 | 1 => 0,
+                    2 | 3 => self.t as u32,
+                    6 => self.enabled as u32,
+                    9 => self.pc,
+                    14 => 8,
+                    _ => return Err(6),
+                };
+                self.set_s(first, value);
+                Ok(Next::On)
+            }
+            _ => Ok(Next::Ended),
+        }
+    }
+
+    /// The place of `size` bytes: "Not a multiple of 2, 4 or 64 (vector): reason 1. Then any byte outside memory: reason 2."
+    fn place(&self, base: u8, offset: i32, size: i64) -> Result<usize, u8> {
+        let address = self.s(base) as i64 + offset as i64;
+        if address % size != 0 {
+            return Err(1);
+        }
+        if address < 0 || address + size > self.memory.len() as i64 {
+            return Err(2);
+        }
+        Ok(address as usize)
+    }
+
+    fn bytes(&self, at: usize, size: usize) -> u32 {
+        (0..size).map(|k| (self.memory[at + k] as u32) << (8 * k)).sum()
+    }
+
+    fn set_bytes(&mut self, at: usize, size: usize, x: u32) {
+        for k in 0..size {
+            self.memory[at + k] = (x >> (8 * k)) as u8;
+        }
+    }
+
+    fn access(&mut self, opcode: u8, register: u8, base: u8, offset: i32) -> Result<(), u8> {
+        let size = match opcode {
+            0 | 4 | 32 => 1,
+            1 | 5 | 33 => 2,
+            2 | 34 => 4,
+            _ => 64,
+        };
+        let at = self.place(base, offset, size as i64)?;
+        match opcode {
+            0 => self.set_s(register, self.bytes(at, 1) as u8 as i8 as i32 as u32),
+            1 => self.set_s(register, self.bytes(at, 2) as u16 as i16 as i32 as u32),
+            2 | 4 | 5 => self.set_s(register, self.bytes(at, size)),
+            8 => self.set_v(register, std::array::from_fn(|j| self.bytes(at + 4 * j, 4))),
+            40 => {
+                let (v, mask) = (self.v(register), self.s(59));
+                for (j, x) in v.into_iter().enumerate().filter(|(j, _)| mask >> j & 1 == 1) {
+                    self.set_bytes(at + 4 * j, 4, x);
+                }
+            }
+            _ => self.set_bytes(at, size, self.s(register)),
+        }
+        Ok(())
+    }
+
+    fn execute(&mut self, instruction: Instruction) -> Result<Next, u8> {
+        match instruction {
+            Instruction::R { opcode, flags, d, a, b } => {
+                let x = self.operand(flags >> 1 & 1 == 1, a);
+                let y = self.operand(flags & 1 == 1, b);
+                self.operate(opcode, flags >> 2 & 1 == 1, d, x, y);
+                Ok(Next::On)
+            }
+            Instruction::I { opcode, flags, d, a, immediate } => {
+                let x = self.operand(flags & 1 == 1, a);
+                self.operate(opcode, flags >> 1 & 1 == 1, d, x, Operand::Scalar(immediate as u32));
+                Ok(Next::On)
+            }
+            Instruction::Movei { opcode, flag, d, immediate } => {
+                self.move_immediate(opcode, flag == 1, d, immediate);
+                Ok(Next::On)
+            }
+            Instruction::J { opcode, register, offset } => self.jump(opcode, register, offset),
+            Instruction::C { opcode, first, second } => self.control(opcode, first, second),
+            Instruction::M { opcode, register, base, offset } => {
+                self.access(opcode, register, base, offset)?;
+                Ok(Next::On)
+            }
+        }
+    }
+}
+
+/// One issue of thread t.
+fn issue(program: &[u32], room: &mut [u32], memory: &mut [u8], record: &mut Record, t: usize) {
+    let pc = room[64 * t + 63];
+    let next = if pc % 4 != 0 || (pc / 4) as usize >= program.len() {
+        Err(4)
+    } else {
+        match read(program[(pc / 4) as usize]) {
+            Reading::Undefined => Err(3),
+            Reading::NotFitted => Err(6),
+            Reading::Defined(instruction) => {
+                let mut view = Issue { words: program.len(), room, memory, enabled: record.enabled, t, pc };
+                view.execute(instruction)
+            }
+        }
+    };
+    record.last = t as u8;
+    match next {
+        Err(reason) => record.threads[t] = Status::Trapped(reason),
+        Ok(Next::On) => room[64 * t + 63] = pc + 4,
+        Ok(Next::To(address)) => room[64 * t + 63] = address,
+        Ok(Next::Ended) => {
+            record.threads[t] = Status::Ended;
+            room[64 * t + 63] = pc + 4;
+        }
+        Ok(Next::Meets(id, second)) => {
+            if record.meet(t, id, second) {
+                room[64 * t + 63] = pc + 4;
+            }
+        }
+    }
+}
+
+/// "The first running thread after "last", going round upwards from 7 to 0"
+fn chosen(record: &Record) -> Option<usize> {
+    (1..=8).map(|k| (record.last as usize + k) % 8).find(|t| record.threads[*t] == Status::Running)
+}
+
+/// A run: the answer, or a number of the table, and the number of issues made.
+pub fn run(program: &[u32], room: &mut [u32], memory: &mut [u8], record: &mut Record, budget: u32) -> (Result<Ending, u8>, u32) {
+    run_seen(program, room, memory, record, budget, |_| ())
+}
+
+/// The same, and tells the thread of each issue.
+pub fn run_seen(
+    program: &[u32],
+    room: &mut [u32],
+    memory: &mut [u8],
+    record: &mut Record,
+    budget: u32,
+    mut seen: impl FnMut(usize),
+) -> (Result<Ending, u8>, u32) {
+    if program.is_empty() || program.len() > 16384 {
+        return (Err(1), 0);
+    }
+    if room.len() != ROOM_WORDS {
+        return (Err(2), 0);
+    }
+    if !memory_allowed(memory.len()) {
+        return (Err(3), 0);
+    }
+    if !record.well_formed() {
+        return (Err(4), 0);
+    }
+    let mut made = 0;
+    loop {
+        let Some(t) = chosen(record) else {
+            let waits = record.threads.iter().any(|s| matches!(s, Status::Waiting { .. }));
+            return (Ok(if waits { Ending::Stuck } else { Ending::Stopped }), made);
+        };
+        if made == budget {
+            return (Ok(Ending::Spent), made);
+        }
+        issue(program, room, memory, record, t);
+        seen(t);
+        made += 1;
+    }
+}
+
+#[cfg(test)]
+mod tests {
+    use super::*;
+    use crate::machine::{start, ZERO};
+
+    fn room() -> Vec<u32> {
+        vec![0; ROOM_WORDS]
+    }
+
+    /// "0xFFFFFFFF times itself: mullo 1, mulhi 0, mulhu 0xFFFFFFFE. .. cmplt 0xFFFFFFFF,0 is 1, cmpult 0."
+    #[test]
+    fn values() {
+        let all = 0xFFFF_FFFF;
+        assert_eq!((binary(6, all, all), binary(7, all, all), binary(8, all, all)), (1, 0, 0xFFFF_FFFE));
+        assert_eq!(binary(9, 0x8000_0000, 33), 0xC000_0000);
+        assert_eq!((unary(12, 1), unary(12, 0), unary(13, 0)), (31, 32, 32));
+        assert!(compare(18, all, 0) && !compare(22, all, 0));
+    }
+
+    /// "s59 = 5, v1[j] = j, s2 = 10, v3 all 7: add v3,v1,s2 gives 10 and 12 in lanes 0 and 2, else 7."
+    #[test]
+    fn masked_add() {
+        let (mut room, mut memory) = (room(), vec![0; 64]);
+        let mut record = start(1, &mut room).unwrap();
+        (room[59], room[2]) = (5, 10);
+        for j in 0..16 {
+            (room[512 + 16 + j], room[512 + 48 + j]) = (j as u32, 7);
+        }
+        assert_eq!(run(&[0x040C108C], &mut room, &mut memory, &mut record, 1), (Ok(Ending::Spent), 1));
+        let mut expected = [7; 16];
+        (expected[0], expected[2]) = (10, 12);
+        assert_eq!(room[512 + 48..512 + 64], expected);
+    }
+
+    /// "Memory 64, load32: address 60 good, 62 reason 1, 64 and -4 reason 2, base 0xFFFFFFFC plus 4 reason 2."
+    #[test]
+    fn addresses() {
+        let load = |word, base| {
+            let (mut room, mut memory) = (room(), vec![0; 64]);
+            let mut record = start(1, &mut room).unwrap();
+            room[1] = base;
+            assert_eq!(run(&[word], &mut room, &mut memory, &mut record, 1).1, 1);
+            record.threads[0]
+        };
+        assert_eq!(load(0x82081000, 60), Status::Running);
+        assert_eq!(load(0x82081000, 62), Status::Trapped(1));
+        assert_eq!(load(0x82081000, 64), Status::Trapped(2));
+        assert_eq!(load(0x82081FE0, 0), Status::Trapped(2));
+        assert_eq!(load(0x82081020, 0xFFFF_FFFC), Status::Trapped(2));
+    }
+
+    /// "0x70000000 alone, mask 7, budget 7: issues 0,1,2,0,1,2,0, spent. Budget 0: spent, 0."
+    #[test]
+    fn order() {
+        let (mut room, mut memory) = (room(), vec![0; 64]);
+        let mut record = start(7, &mut room).unwrap();
+        let mut threads = vec![];
+        let answer = run_seen(&[0x7000_0000], &mut room, &mut memory, &mut record, 7, |t| threads.push(t));
+        assert_eq!(answer, (Ok(Ending::Spent), 7));
+        assert_eq!(threads, [0, 1, 2, 0, 1, 2, 0]);
+        assert_eq!(run(&[0x7000_0000], &mut room, &mut memory, &mut record, 0), (Ok(Ending::Spent), 0));
+    }
+
+    /// "0x62040004, 0x78001000, 0x7A000000: budget 100: mask 3 stops after 6; mask 1 is stuck after 2."
+    #[test]
+    fn barrier() {
+        for (mask, answer) in [(3, (Ok(Ending::Stopped), 6)), (1, (Ok(Ending::Stuck), 2))] {
+            let (mut room, mut memory) = (room(), vec![0; 64]);
+            let mut record = start(mask, &mut room).unwrap();
+            assert_eq!(run(&[0x62040004, 0x78001000, 0x7A000000], &mut room, &mut memory, &mut record, 100), answer);
+        }
+    }
+
+    /// The table's numbers, in their order.
+    #[test]
+    fn refusals() {
+        let (mut room, mut memory, mut short) = (room(), vec![0; 64], vec![0; 8703]);
+        let mut bad = ZERO;
+        let long = vec![0; 16385];
+        assert_eq!(run(&[], &mut short, &mut [], &mut bad, 9), (Err(1), 0));
+        assert_eq!(run(&long, &mut short, &mut [], &mut bad, 9), (Err(1), 0));
+        assert_eq!(run(&[0], &mut short, &mut [], &mut bad, 9), (Err(2), 0));
+        assert_eq!(run(&[0], &mut room, &mut [], &mut bad, 9), (Err(3), 0));
+        assert_eq!(run(&[0], &mut room, &mut [0; 96], &mut bad, 9), (Err(3), 0));
+        assert_eq!(run(&[0], &mut room, &mut memory, &mut bad, 9), (Err(4), 0));
+        assert_eq!((start(0, &mut short), start(0, &mut room), start(256, &mut room)), (Err(2), Err(5), Err(5)));
+    }
+}
