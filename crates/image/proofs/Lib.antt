@@ -1,0 +1,16 @@
+-- The laws that several proofs cite, and the proofs of the claims.
+pub mod Tests
+pub mod Join
+pub mod Parts
+pub mod Rows
+pub mod Words
+pub mod Table
+pub mod Standing
+pub mod Refusals
+pub mod RecordIn
+pub mod Rooms
+pub mod Written
+pub mod Restored
+pub mod Places
+pub mod RoundTrip
+pub mod Claims

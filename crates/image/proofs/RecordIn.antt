@@ -1,0 +1,80 @@
+-- The machine record that an image holds, found at its fixed places.
+use Prim.Native.Nat.{ℕ, _+_, _*_, _≤_, _<_}
+use mathlib.Core.Bool.{Bool, _&&_}
+use mathlib.Core.List.{List, [], _∷_}
+use mathlib.Core.Path.{_≡_, refl, sym, ap, _∙_}
+use native.Mathlib.Omega.{arith}
+use lib.ListN.{length, getD, take, drop}
+use lib.Seq.{getD-drop, getD-take}
+use Rattle.answer.specs.Answer.{Answer}
+use Rattle.machine.specs.Fields.{fields, threadOf}
+use Rattle.machine.specs.WellFormed.{wellFormed}
+use Rattle.image.specs.Image.{fieldsIn, isEntry, entryOr, entryIn, threadsIn, machineIn, recordIn}
+use Rattle.image.specs.Join.{joined, allBelow, Grown}
+use Rattle.image.specs.Layout.{rowOf, kinds, orderOf, headLength, recordSize, startOf, bodyPlace, bodyAt}
+use Rattle.image.specs.Types.{Hd, Th, Shape, Kind, Row, Thread, Machine}
+use Rattle.image.proofs.Join.{grown-whole, length-even}
+use Rattle.image.proofs.Parts.{joined-same}
+use Rattle.image.proofs.Rows.{record-room, kind-room}
+use Rattle.image.proofs.Tests.{all-same}
+
+-- a byte of a part
+pub part-byte : (l : List ℕ) (at w k : ℕ) → k < w → getD (take w (drop at l)) k 0 ≡ getD l (at + k) 0
+part-byte l at w k h = getD-take w (drop at l) k 0 h ∙ getD-drop at l k 0
+
+pub part-first : (l : List ℕ) (at w : ℕ) → 0 < w → getD (take w (drop at l)) 0 0 ≡ getD l at 0
+part-first l at w h = part-byte l at w 0 h ∙ ap (λ z. getD l z 0) (let z : at + 0 ≡ at = omega arith in z)
+
+pub fields-at : (l : List ℕ) (at : ℕ) → fields (getD l at 0) (getD l (at + 1) 0) (getD l (at + 2) 0) (getD l (at + 3) 0) ≡ fieldsIn (take 4 (drop at l))
+fields-at l at = rw (part-first l at 4 (omega arith), part-byte l at 4 1 (omega arith), part-byte l at 4 2 (omega arith), part-byte l at 4 3 (omega arith))
+
+-- Fixed places: `at` is where the first body of a kind stands, and `size` what a record has.
+
+module _ (s : Shape) (k : Kind) where
+  abbrev r : Row
+  r = rowOf s k
+
+  abbrev start : ℕ
+  start = startOf s (orderOf k)
+
+  pub body-place : (at size : ℕ) → at ≡ start + headLength (r .places) → size ≡ recordSize r → (i : ℕ) → at + size * i ≡ bodyPlace r start i
+  body-place at size e f i = (λ n. e n + f n * i) ∙ omega arith
+
+  pub body-room : (i len : ℕ) → i < r .count → startOf s kinds ≤ len → bodyPlace r start i + r .size ≤ len
+  body-room i len h e = omega (arith, record-room r start i (startOf s kinds) h (kind-room s k))
+
+-- The entries.
+
+-- the entry at a place
+abbrev pub entryAt : List ℕ → ℕ → Answer Thread
+entryAt l p = threadOf (fieldsIn (take 4 (drop p l)))
+
+entry-in : (s : Shape) (l : List ℕ) (t p : ℕ) → p ≡ bodyPlace (rowOf s Th) (startOf s (orderOf Th)) t → entryAt l p ≡ entryIn s l t
+unfolding entryIn bodyAt
+entry-in s l t p e = ap (entryAt l) e
+
+module _ (s : Shape) (l : List ℕ) (at size : ℕ) (place : (t : ℕ) → at + size * t ≡ bodyPlace (rowOf s Th) (startOf s (orderOf Th)) t) where
+  pub entries-read : allBelow 8 (λ t. isEntry (entryAt l (at + size * t))) ≡ allBelow 8 (λ t. isEntry (entryIn s l t))
+  entries-read = all-same 8 _ _ (λ t h. ap isEntry (entry-in s l t (at + size * t) (place t)))
+
+  entries-same : joined 8 (λ t. entryOr (entryAt l (at + size * t)) ∷ []) ≡ threadsIn s l
+  unfolding threadsIn
+  entries-same = joined-same 8 _ _ (λ t h. ap (λ e. entryOr e ∷ []) (entry-in s l t (at + size * t) (place t)))
+
+  pub threads-read : {m n : List Thread} {p : ℕ} → length m ≡ 8 → Grown m n 0 p (joined 8 (λ t. entryOr (entryAt l (at + size * t)) ∷ [])) → n ≡ threadsIn s l
+  threads-read h g = grown-whole g (length-even 8 1 (λ t. entryOr (entryAt l (at + size * t)) ∷ []) (λ _ _. refl) ∙ sym h) ∙ entries-same
+
+-- The record.
+
+module _ (s : Shape) (l : List ℕ) (at : ℕ) (place : at ≡ bodyPlace (rowOf s Hd) (startOf s (orderOf Hd)) 0) (threads : List Thread) (same : threads ≡ threadsIn s l) where
+  pub machine-read : record { enabled = getD l (at + 1) 0; last = getD l at 0; threads = threads } ≡ machineIn s l
+  unfolding machineIn bodyAt
+  machine-read =
+      let p = bodyPlace (rowOf s Hd) (startOf s (orderOf Hd)) 0 in
+      let e : getD l (at + 1) 0 ≡ getD (take 2 (drop p l)) 1 0 = ap (λ z. getD l (z + 1) 0) place ∙ sym (part-byte l p 2 1 (omega arith)) in
+      let f : getD l at 0 ≡ getD (take 2 (drop p l)) 0 0 = ap (λ z. getD l z 0) place ∙ sym (part-first l p 2 (omega arith)) in
+      (λ i. record { enabled = e i; last = f i; threads = same i })
+
+pub record-read : (s : Shape) (l : List ℕ) (m : Machine) (a b : Bool) → a ≡ allBelow 8 (λ t. isEntry (entryIn s l t)) → m ≡ machineIn s l → b ≡ wellFormed m → (a && b) ≡ recordIn s l
+unfolding recordIn
+record-read s l m a b e f g = (λ i. e i && (g ∙ ap wellFormed f) i)

@@ -1,0 +1,171 @@
+-- What a call has of its lengths and its record where the table gives it no number, and what it then gives.
+use Prim.Native.Nat.{ℕ, _*_, _/_, _%_, _≤_}
+use mathlib.Core.Bool.{Bool, true, false, cond, not}
+use mathlib.Core.List.{List, [], _∷_, _++_}
+use mathlib.Core.Option.{Option, none, some}
+use mathlib.Core.Path.{_≡_, refl, sym, ap, _∙_}
+use native.Mathlib.Omega.{arith}
+use borrow.Author.Tests.{ltb-false, eqb-true, eq-eqb, not-false}
+use lib.Dec.{ltb, eqb}
+use lib.ListN.{length}
+use Rattle.answer.specs.Answer.{given, refused}
+use Rattle.answer.specs.Refusal.{badRegisters, badMemory, Check, check, firstThatApplies, refusedOr}
+use Rattle.execution.specs.State.{State, state}
+use Rattle.machine.proofs.Tests.{neither}
+use Rattle.machine.specs.Machine.{zeroed}
+use Rattle.machine.specs.WellFormed.{wellFormed}
+use Rattle.image.specs.Calls.{Writing, writing, writeRefusal, write, Reading, reading, readRefusal, read}
+use Rattle.image.specs.Image.{shapeOf, Lengths, image, recordIn, stateIn}
+use Rattle.image.specs.Layout.{ofBlocks, kinds, startOf, headsIn}
+use Rattle.image.specs.Refusal.{imageLength, badLength, sizeChecks, sizesNumber, writeNumber, recordChecks, recordsNumber, readNumber}
+use Rattle.image.specs.Types.{Shape}
+use Rattle.image.proofs.Rows.{whole-length}
+
+-- a check that gives no number does not apply, and the rest give none
+passed : (applies : Bool) (n : ℕ) (rest : Option ℕ) → cond applies (some n) rest ≡ none → (applies ≡ false) × (rest ≡ none)
+passed true n rest h = absurd (let z : _≡_ {A = ℕ} 0 1 = cc in omega arith)
+passed false n rest h = (refl, h)
+
+-- some checks before others
+first-after : (a b : List Check) → firstThatApplies (a ++ b) ≡ refusedOr (firstThatApplies a) some (firstThatApplies b)
+unfolding firstThatApplies
+first-after [] b = refl
+first-after (c ∷ cs) b = go (c .applies) (first-after cs b)
+  where
+    go : (x : Bool) → firstThatApplies (cs ++ b) ≡ refusedOr (firstThatApplies cs) some (firstThatApplies b)
+        → cond x (some (c .number)) (firstThatApplies (cs ++ b)) ≡ refusedOr (cond x (some (c .number)) (firstThatApplies cs)) some (firstThatApplies b)
+    go true e = refl
+    go false e = e
+
+-- a number is given, or none
+either-given : (o p : Option ℕ) → refusedOr o some p ≡ none → (o ≡ none) × (p ≡ none)
+either-given none p h = (refl, h)
+either-given (some n) p h = absurd (let z : _≡_ {A = ℕ} 0 1 = cc in omega arith)
+
+last-check : (n : ℕ) (applies : Bool) → firstThatApplies (check n applies ∷ []) ≡ cond applies (some n) none
+unfolding firstThatApplies
+last-check n applies = refl
+
+-- The lengths.
+
+pub record Sized (room bytes size : ℕ) : Type 0 where
+  pub registers : badRegisters room ≡ false
+  pub memory : badMemory bytes ≡ false
+  pub length : badLength bytes size ≡ false
+
+module _ (bytes : ℕ) (h : badMemory bytes ≡ false) where
+  memory-tests : (ltb bytes 64 ≡ false) × (ltb 65536 bytes ≡ false) × (eqb (bytes % 64) 0 ≡ true)
+  memory-tests =
+      let a = neither _ (not (eqb (bytes % 64) 0)) h in
+      let b = neither (ltb bytes 64) (ltb 65536 bytes) (a .0) in
+      (b .0, b .1, not-false (eqb (bytes % 64) 0) (a .1))
+
+  pub memory-most : bytes ≤ 65536
+  memory-most = ltb-false 65536 bytes (memory-tests .1)
+
+  pub memory-blocks : bytes / 64 ≤ 1024
+  memory-blocks = omega (arith, memory-most)
+
+  pub memory-whole : 64 * (bytes / 64) ≡ bytes
+  memory-whole = omega (arith, eqb-true (bytes % 64) 0 (memory-tests .2))
+
+pub room-words : (room : ℕ) → badRegisters room ≡ false → room ≡ 8704
+room-words room h = eqb-true room 8704 (not-false (eqb room 8704) h)
+
+pub words-room : (room : ℕ) → room ≡ 8704 → badRegisters room ≡ false
+words-room room h = rw (eq-eqb room 8704 h)
+
+pub good-length : (bytes size : ℕ) → badLength bytes size ≡ false → size ≡ imageLength bytes
+good-length bytes size h = eqb-true size (imageLength bytes) (not-false (eqb size (imageLength bytes)) h)
+
+pub length-good : (bytes size : ℕ) → size ≡ imageLength bytes → badLength bytes size ≡ false
+length-good bytes size h = rw (eq-eqb size (imageLength bytes) h)
+
+module _ (room bytes size : ℕ) where
+  pub sized : sizesNumber room bytes size ≡ none → Sized room bytes size
+  unfolding sizesNumber firstThatApplies
+  sized h =
+      let a = passed (badRegisters room) 2 _ h in
+      let b = passed (badMemory bytes) 3 _ (a .1) in
+      let c = passed (badLength bytes size) 9 none (b .1) in
+      record { registers = a .0; memory = b .0; length = c .0 }
+
+  pub sizes-none : Sized room bytes size → sizesNumber room bytes size ≡ none
+  unfolding sizesNumber firstThatApplies
+  sizes-none k = rw (k .registers, k .memory, k .length)
+
+  module _ (k : Sized room bytes size) where
+    pub long : startOf (ofBlocks (bytes / 64)) kinds ≡ size
+    long = whole-length (ofBlocks (bytes / 64)) ∙ sym (good-length bytes size (k .length))
+
+pub lengths : (registers memory : List ℕ) (size : ℕ) → Sized (length registers) (length memory) size → Lengths registers memory
+lengths registers memory size k =
+    record { room = room-words (length registers) (k .registers); whole = memory-whole (length memory) (k .memory); few = memory-blocks (length memory) (k .memory) }
+
+-- Writing.
+
+module _ (s : State) (buffer : List ℕ) where
+  abbrev sizes : Option ℕ
+  sizes = sizesNumber (length (s .registers)) (length (s .memory)) (length buffer)
+
+  number-is : writeRefusal s buffer ≡ refusedOr sizes some (cond (not (wellFormed (s .machine))) (some 4) none)
+  unfolding writeNumber sizesNumber
+  number-is = first-after (sizeChecks (length (s .registers)) (length (s .memory)) (length buffer)) (check 4 (not (wellFormed (s .machine))) ∷ []) ∙ ap (refusedOr sizes some) (last-check 4 (not (wellFormed (s .machine))))
+
+  answer : (o : Option ℕ) → writeRefusal s buffer ≡ o
+      → refusedOr o (λ number. writing (refused number) buffer) (writing (given tt) (image s)) ≡ write s buffer
+  unfolding write
+  answer o e = rw e
+
+  pub write-sizes : (n : ℕ) → sizes ≡ some n → writing (refused n) buffer ≡ write s buffer
+  write-sizes n h = answer (some n) (number-is ∙ ap (λ o. refusedOr o some (cond (not (wellFormed (s .machine))) (some 4) none)) h)
+
+  module _ (h : sizes ≡ none) where
+    pub write-record : wellFormed (s .machine) ≡ false → writing (refused 4) buffer ≡ write s buffer
+    write-record w = answer (some 4) (number-is ∙ rw (h, w))
+
+    pub write-taken : wellFormed (s .machine) ≡ true → writing (given tt) (image s) ≡ write s buffer
+    write-taken w = answer none (number-is ∙ rw (h, w))
+
+  pub write-good : writeRefusal s buffer ≡ none → (sizes ≡ none) × (wellFormed (s .machine) ≡ true)
+  write-good h =
+      let a = either-given sizes (cond (not (wellFormed (s .machine))) (some 4) none) (sym number-is ∙ h) in
+      (a .0, not-false (wellFormed (s .machine)) (passed (not (wellFormed (s .machine))) 4 none (a .1) .0))
+
+-- Reading.
+
+module _ (s : Shape) (l : List ℕ) where
+  pub records-heads : headsIn s l ≡ false → recordsNumber s l ≡ some 10
+  unfolding recordsNumber firstThatApplies
+  records-heads h = rw h
+
+  pub records-bad : headsIn s l ≡ true → recordIn s l ≡ false → recordsNumber s l ≡ some 4
+  unfolding recordsNumber firstThatApplies
+  records-bad h g = rw (h, g)
+
+  pub records-none : headsIn s l ≡ true → recordIn s l ≡ true → recordsNumber s l ≡ none
+  unfolding recordsNumber firstThatApplies
+  records-none h g = rw (h, g)
+
+  pub records-good : recordsNumber s l ≡ none → (headsIn s l ≡ true) × (recordIn s l ≡ true)
+  unfolding recordsNumber firstThatApplies
+  records-good h =
+      let a = passed (not (headsIn s l)) 10 _ h in
+      let b = passed (not (recordIn s l)) 4 none (a .1) in
+      (not-false (headsIn s l) (a .0), not-false (recordIn s l) (b .0))
+
+pub read-number : (l : List ℕ) (room bytes : ℕ) → readNumber l room bytes ≡ refusedOr (sizesNumber room bytes (length l)) some (recordsNumber (ofBlocks (bytes / 64)) l)
+unfolding readNumber sizesNumber recordsNumber
+read-number l room bytes = first-after (sizeChecks room bytes (length l)) (recordChecks (ofBlocks (bytes / 64)) l)
+
+module _ (l registers memory : List ℕ) where
+  pub read-refused : (n : ℕ) → readRefusal l registers memory ≡ some n → reading (refused n) (state zeroed registers memory) ≡ read l registers memory
+  unfolding read
+  read-refused n h = rw h
+
+  pub read-taken : readRefusal l registers memory ≡ none → reading (given tt) (stateIn (shapeOf memory) l) ≡ read l registers memory
+  unfolding read
+  read-taken h = rw h
+
+pub read-sized : (l : List ℕ) (room bytes : ℕ) → readNumber l room bytes ≡ none → (sizesNumber room bytes (length l) ≡ none) × (recordsNumber (ofBlocks (bytes / 64)) l ≡ none)
+read-sized l room bytes h = either-given (sizesNumber room bytes (length l)) _ (sym (read-number l room bytes) ∙ h)

@@ -1,0 +1,148 @@
+-- What was read is written back: the state of an accepted image has that image.
+use Prim.Native.Nat.{ℕ, zero, suc, _+_, _*_, _/_, _%_, _≤_, _<_}
+use mathlib.Core.Bool.{true}
+use mathlib.Core.List.{List, [], _∷_, _++_}
+use mathlib.Core.Path.{_≡_, refl, sym, ap, _∙_}
+use native.Mathlib.Omega.{arith}
+use lib.ListN.{length, getD, take, drop}
+use lib.Seq.{take-at, drop-at, drop-drop, getD-take}
+use Rattle.answer.specs.Answer.{Answer, given, refused}
+use Rattle.execution.specs.Registers.{scalarPlace, lanePlace}
+use Rattle.execution.specs.State.{State, state}
+use Rattle.machine.proofs.Claims.{exact}
+use Rattle.machine.proofs.Tests.{never}
+use Rattle.machine.specs.Fields.{fieldsOf}
+use Rattle.machine.specs.Machine.{zeroThread}
+use Rattle.image.specs.Bytes.{wordBytes, byteWord, bytesOf, wordsOf}
+use Rattle.image.specs.Claims.{Words, Bytes}
+use Rattle.image.specs.Image.{fieldBytes, bodyOf, image, fieldsIn, isEntry, entryOr, entryIn, threadsIn, machineIn, roomIn, registersIn, memoryIn, stateIn}
+use Rattle.image.specs.Join.{joined, allBelow}
+use Rattle.image.specs.Layout.{ofBlocks, kinds, rowOf, orderOf, startOf, bodyPlace, bodyAt, bodyIn, laidOut, headsIn}
+use Rattle.image.specs.Types.{Kind, Hd, Th, Sr, Vr, Mm, Shape, Thread}
+use Rattle.image.proofs.Parts.{cut-take, joined-same, read-joined, piece-even}
+use Rattle.image.proofs.Rooms.{room-length, body-size, memory-length}
+use Rattle.image.proofs.Table.{laid-back}
+use Rattle.image.proofs.Tests.{all-elim}
+use Rattle.image.proofs.Words.{words-bytes, words-length, part-bound, four-of}
+
+-- Lists.
+
+two-of : (c : List ℕ) → length c ≡ 2 → getD c 0 0 ∷ getD c 1 0 ∷ [] ≡ c
+two-of [] h = absurd (omega arith)
+two-of (x ∷ []) h = absurd (omega arith)
+two-of (x ∷ y ∷ []) h = refl
+two-of (x ∷ y ∷ z ∷ c) h = absurd (omega arith)
+
+-- the bytes of n words are those of the first n
+bytes-cut : (n : ℕ) (words : List ℕ) → bytesOf n words ≡ bytesOf n (take n words)
+unfolding bytesOf
+bytes-cut n words =
+    joined-same n (λ j. wordBytes (getD words j 0)) (λ j. wordBytes (getD (take n words) j 0)) (λ j h. ap wordBytes (sym (getD-take n words j 0 h)))
+
+body-bound : (a : Shape) (l : List ℕ) → Bytes l → (k : Kind) (i : ℕ) → Bytes (bodyIn a l k i)
+unfolding bodyAt
+body-bound a l h k i = part-bound (rowOf a k .size) (bodyPlace (rowOf a k) (startOf a (orderOf k)) i) l h
+
+-- an entry that was read
+the-entry : (o : Answer Thread) → isEntry o ≡ true → o ≡ given (entryOr o)
+the-entry (given e) h = refl
+the-entry (refused n) h = never h refl
+
+module _ (a : Shape) (l : List ℕ) (long : startOf a kinds ≤ length l) (bytes : Bytes l) (read : allBelow 8 (λ t. isEntry (entryIn a l t)) ≡ true) where
+  abbrev s : State
+  s = stateIn a l
+
+  hd : (i : ℕ) → i < 1 → bodyOf s Hd i ≡ bodyIn a l Hd i
+  unfolding machineIn
+  hd i h = two-of (bodyIn a l Hd 0) (body-size a l long Hd 0 (omega arith)) ∙ ap (bodyIn a l Hd) (let z : 0 ≡ i = omega arith in z)
+
+  th : (i : ℕ) → i < 8 → bodyOf s Th i ≡ bodyIn a l Th i
+  unfolding machineIn threadsIn entryIn
+  th i h =
+      let o = entryIn a l i in
+      let g = the-entry o (all-elim 8 (λ t. isEntry (entryIn a l t)) read i h) in
+      let f = exact (fieldsIn (bodyIn a l Th i)) (entryOr o) .0 g .0 in
+      ap (λ e. fieldBytes (fieldsOf e)) (read-joined zeroThread 8 i (λ t. entryOr (entryIn a l t)) h)
+      ∙ (ap fieldBytes f ∙ four-of (bodyIn a l Th i) (body-size a l long Th i h))
+
+  -- n words of a row, from where its row of words stands in the register room
+  words-of : (k : Kind) (n i : ℕ) → rowOf a k .size ≡ 4 * n → i < rowOf a k .count → (p : ℕ) → take n (drop p (registersIn a l)) ≡ wordsOf n (bodyIn a l k i)
+      → bytesOf n (drop p (registersIn a l)) ≡ bodyIn a l k i
+  words-of k n i e h p g =
+      bytes-cut n (drop p (registersIn a l))
+      ∙ (ap (bytesOf n) g
+      ∙ words-bytes n (bodyIn a l k i) (body-size a l long k i h ∙ e) (body-bound a l bytes k i))
+
+  room-piece : (k : Kind) (n i : ℕ) → i < rowOf a k .count → take n (drop (n * i) (roomIn a l k n)) ≡ wordsOf n (bodyIn a l k i)
+  unfolding roomIn
+  room-piece k n i h = piece-even (rowOf a k .count) i n (λ i. wordsOf n (bodyIn a l k i)) (λ i _. words-length n (bodyIn a l k i)) h
+
+  sr : (i : ℕ) → i < 8 → bodyOf s Sr i ≡ bodyIn a l Sr i
+  unfolding registersIn
+  sr i h =
+      let front = roomIn a l Sr 64 in
+      let back = roomIn a l Vr 16 in
+      let z : scalarPlace i 0 ≡ 64 * i = omega arith in
+      words-of Sr 64 i refl h (scalarPlace i 0)
+      (ap (λ p. take 64 (drop p (front ++ back))) z
+      ∙ (sym (cut-take (64 * i) 64 512 (front ++ back) (omega arith))
+      ∙ (ap (λ m. take 64 (drop (64 * i) m)) (take-at front back 512 (room-length a l Sr 64)) ∙ room-piece Sr 64 i h)))
+
+  vr : (i : ℕ) → i < 512 → bodyOf s Vr i ≡ bodyIn a l Vr i
+  unfolding registersIn
+  vr i h =
+      let front = roomIn a l Sr 64 in
+      let back = roomIn a l Vr 16 in
+      let z : lanePlace (i / 64) (i % 64) 0 ≡ 512 + 16 * i = omega arith in
+      words-of Vr 16 i refl h (lanePlace (i / 64) (i % 64) 0)
+      (ap (λ p. take 16 (drop p (front ++ back))) z
+      ∙ (ap (take 16) (sym (drop-drop (16 * i) 512 (front ++ back)))
+      ∙ (ap (λ m. take 16 (drop (16 * i) m)) (drop-at front back 512 (room-length a l Sr 64)) ∙ room-piece Vr 16 i h)))
+
+  mm : (i : ℕ) → i < a .blocks → bodyOf s Mm i ≡ bodyIn a l Mm i
+  unfolding memoryIn
+  mm i h = piece-even (a .blocks) i 64 (bodyIn a l Mm) (body-size a l long Mm) h
+
+  every : (k : Kind) (i : ℕ) → i < rowOf a k .count → bodyOf s k i ≡ bodyIn a l k i
+  every Hd i h = hd i h
+  every Th i h = th i h
+  every Sr i h = sr i h
+  every Vr i h = vr i h
+  every Mm i h = mm i h
+
+  pub image-back : startOf a kinds ≡ length l → headsIn a l ≡ true → image s ≡ l
+  unfolding image
+  image-back len ok =
+      let e : length (memoryIn a l) / 64 ≡ a .blocks = omega (arith, memory-length a l long) in
+      ap (λ b. laidOut (ofBlocks b) (bodyOf s)) e ∙ laid-back a l (bodyOf s) len ok every
+
+-- Every register read is a word.
+
+append-bound : (b : ℕ) (xs ys : List ℕ) → ((k : ℕ) → getD xs k 0 < b) → ((k : ℕ) → getD ys k 0 < b) → (k : ℕ) → getD (xs ++ ys) k 0 < b
+append-bound b [] ys f g k = g k
+append-bound b (x ∷ xs) ys f g zero = f 0
+append-bound b (x ∷ xs) ys f g (suc k) = append-bound b xs ys (λ k. f (suc k)) g k
+
+joined-bound : (b n : ℕ) (f : ℕ → List ℕ) → 0 < b → ((i k : ℕ) → getD (f i) k 0 < b) → (k : ℕ) → getD (joined n f) k 0 < b
+unfolding joined
+joined-bound b zero f p h k = p
+joined-bound b (suc n) f p h k = append-bound b (joined n f) (f n) (joined-bound b n f p h) (h n) k
+
+one-bound : (b x : ℕ) → 0 < b → x < b → (k : ℕ) → getD (x ∷ []) k 0 < b
+one-bound b x p h zero = h
+one-bound b x p h (suc k) = p
+
+words-bound : (n : ℕ) (l : List ℕ) → Bytes l → Words (wordsOf n l)
+unfolding wordsOf
+words-bound n l h =
+    joined-bound 4294967296 n (λ j. byteWord (take 4 (drop (4 * j) l)) ∷ []) (omega arith)
+    (λ j. one-bound 4294967296 (byteWord (take 4 (drop (4 * j) l))) (omega arith)
+    (let b = part-bound 4 (4 * j) l h in
+    omega (arith, b 0, b 1, b 2, b 3)))
+
+pub registers-bound : (a : Shape) (l : List ℕ) → Bytes l → Words (registersIn a l)
+unfolding registersIn roomIn
+registers-bound a l h =
+    append-bound 4294967296 (roomIn a l Sr 64) (roomIn a l Vr 16)
+    (joined-bound 4294967296 8 (λ i. wordsOf 64 (bodyIn a l Sr i)) (omega arith) (λ i. words-bound 64 (bodyIn a l Sr i) (body-bound a l h Sr i)))
+    (joined-bound 4294967296 512 (λ i. wordsOf 16 (bodyIn a l Vr i)) (omega arith) (λ i. words-bound 16 (bodyIn a l Vr i) (body-bound a l h Vr i)))

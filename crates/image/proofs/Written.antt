@@ -1,0 +1,135 @@
+-- What was written is read back: of every state that the writer takes, at the fixed places of its image.
+use Prim.Native.Nat.{ℕ, _+_, _*_, _/_, _%_, _≤_, _<_}
+use mathlib.Core.Bool.{true, _&&_}
+use mathlib.Core.List.{List, [], _∷_, _++_}
+use mathlib.Core.Path.{_≡_, sym, ap, _∙_}
+use native.Mathlib.Nat.{le-of-eq}
+use native.Mathlib.Omega.{arith}
+use borrow.Author.Tests.{eqb-true}
+use lib.Dec.{eqb, leb}
+use lib.ListN.{length, getD, take, drop, length-drop}
+use lib.Seq.{take-all, take-add, getD-drop}
+use Rattle.answer.specs.Answer.{given}
+use Rattle.execution.specs.Registers.{scalarPlace, lanePlace}
+use Rattle.execution.specs.State.{State, state}
+use Rattle.machine.proofs.Claims.{exact}
+use Rattle.machine.proofs.Tests.{both}
+use Rattle.machine.proofs.Threads.{all-at}
+use Rattle.machine.specs.Fields.{fieldsOf}
+use Rattle.machine.specs.Machine.{zeroThread, statusAt, allThreads}
+use Rattle.machine.specs.Status.{carriesInRange}
+use Rattle.machine.specs.WellFormed.{numbersInRange, idleIfDisabled, countAgreed, fewerWait, wellFormed}
+use Rattle.image.specs.Bytes.{bytesOf, wordsOf}
+use Rattle.image.specs.Claims.{Words}
+use Rattle.image.specs.Image.{shapeOf, Lengths, bodyOf, image, fieldsIn, isEntry, entryOr, entryIn, threadsIn, machineIn, recordIn, roomIn, registersIn, memoryIn, stateIn}
+use Rattle.image.specs.Join.{joined, allBelow}
+use Rattle.image.specs.Layout.{rowOf, bodyIn, headsIn}
+use Rattle.image.specs.Types.{Kind, Hd, Th, Sr, Vr, Mm, Shape, Machine, Thread}
+use Rattle.image.proofs.Join.{fits-in}
+use Rattle.image.proofs.Parts.{joined-same, joined-read, pieces-even}
+use Rattle.image.proofs.Rows.{body-length}
+use Rattle.image.proofs.Table.{laid-body, laid-heads}
+use Rattle.image.proofs.Tests.{two, all-intro}
+use Rattle.image.proofs.Words.{words-back}
+
+-- A well-formed record has eight entries with their numbers in range.
+
+module _ (m : Machine) (h : wellFormed m ≡ true) where
+  in-range : numbersInRange m ≡ true
+  unfolding wellFormed
+  in-range =
+      both (numbersInRange m) (allThreads (idleIfDisabled m))
+      (both (numbersInRange m && allThreads (idleIfDisabled m)) (allThreads (countAgreed m))
+      (both (numbersInRange m && allThreads (idleIfDisabled m) && allThreads (countAgreed m)) (allThreads (fewerWait m)) h .0) .0) .0
+
+  numbers : ((leb 1 (m .enabled) && leb (m .enabled) 255 && leb (m .last) 7 && eqb (length (m .threads)) 8) ≡ true) × (allThreads (λ t. carriesInRange (statusAt m t)) ≡ true)
+  unfolding numbersInRange
+  numbers = both _ (allThreads (λ t. carriesInRange (statusAt m t))) in-range
+
+  pub eight : length (m .threads) ≡ 8
+  eight = eqb-true (length (m .threads)) 8 (both (leb 1 (m .enabled) && leb (m .enabled) 255 && leb (m .last) 7) (eqb (length (m .threads)) 8) (numbers .0) .1)
+
+  pub carried : (t : ℕ) → t < 8 → carriesInRange (statusAt m t) ≡ true
+  carried = all-at (λ t. carriesInRange (statusAt m t)) (numbers .1)
+
+-- Words laid out in rows of n, from place p on.
+
+rows-back : (n count p : ℕ) (words : List ℕ) → Words words → p + n * count ≤ length words
+    → joined count (λ i. wordsOf n (bytesOf n (drop (p + n * i) words))) ≡ take (n * count) (drop p words)
+rows-back n count p words b room =
+    joined-same count (λ i. wordsOf n (bytesOf n (drop (p + n * i) words))) (λ i. take n (drop (p + n * i) words))
+    (λ i h. words-back n (drop (p + n * i) words) (rw (length-drop (p + n * i) words) (omega (arith, fits-in n i count h))) (λ k. rw (getD-drop (p + n * i) words k 0) (b (p + n * i + k))))
+    ∙ pieces-even count n p words
+
+module _ (s : State) (w : Lengths (s .registers) (s .memory)) where
+  abbrev a : Shape
+  a = shapeOf (s .memory)
+
+  abbrev l : List ℕ
+  l = image s
+
+  pub body : (k : Kind) (i : ℕ) → i < rowOf a k .count → bodyIn a l k i ≡ bodyOf s k i
+  unfolding image
+  body = laid-body a (bodyOf s) (body-length s w)
+
+  pub heads-back : headsIn a l ≡ true
+  unfolding image
+  heads-back = laid-heads a (bodyOf s) (body-length s w)
+
+  pub memory-back : memoryIn a l ≡ s .memory
+  unfolding memoryIn
+  memory-back =
+      joined-same (a .blocks) (bodyIn a l Mm) (λ i. take 64 (drop (0 + 64 * i) (s .memory))) (λ i h. body Mm i h ∙ ap (λ p. take 64 (drop p (s .memory))) (let z : 64 * i ≡ 0 + 64 * i = omega arith in z))
+      ∙ (pieces-even (a .blocks) 64 0 (s .memory) ∙ take-all (64 * a .blocks) (s .memory) (omega (arith, w .whole)))
+
+  module _ (b : Words (s .registers)) where
+    scalars : roomIn a l Sr 64 ≡ take 512 (s .registers)
+    unfolding roomIn
+    scalars =
+        joined-same 8 (λ i. wordsOf 64 (bodyIn a l Sr i)) (λ i. wordsOf 64 (bytesOf 64 (drop (0 + 64 * i) (s .registers))))
+        (λ i h. ap (wordsOf 64) (body Sr i h ∙ ap (λ p. bytesOf 64 (drop p (s .registers))) (let z : scalarPlace i 0 ≡ 0 + 64 * i = omega arith in z)))
+        ∙ rows-back 64 8 0 (s .registers) b (omega (arith, w .room))
+
+    vectors : roomIn a l Vr 16 ≡ take 8192 (drop 512 (s .registers))
+    unfolding roomIn
+    vectors =
+        joined-same 512 (λ i. wordsOf 16 (bodyIn a l Vr i)) (λ i. wordsOf 16 (bytesOf 16 (drop (512 + 16 * i) (s .registers))))
+        (λ i h. ap (wordsOf 16) (body Vr i h ∙ ap (λ p. bytesOf 16 (drop p (s .registers))) (let z : lanePlace (i / 64) (i % 64) 0 ≡ 512 + 16 * i = omega arith in z)))
+        ∙ rows-back 16 512 512 (s .registers) b (omega (arith, w .room))
+
+    pub registers-back : registersIn a l ≡ s .registers
+    unfolding registersIn
+    registers-back = (λ i. scalars i ++ vectors i) ∙ (sym (take-add 512 8192 (s .registers)) ∙ take-all 8704 (s .registers) (le-of-eq (w .room)))
+
+  module _ (h : wellFormed (s .machine) ≡ true) where
+    abbrev entry : ℕ → Thread
+    entry t = getD (s .machine .threads) t zeroThread
+
+    entry-back : (t : ℕ) → t < 8 → entryIn a l t ≡ given (entry t)
+    unfolding entryIn
+    entry-back t k =
+        let e : fieldsIn (bodyIn a l Th t) ≡ fieldsOf (entry t) = ap fieldsIn (body Th t k) in
+        exact (fieldsIn (bodyIn a l Th t)) (entry t) .1 (sym e, carried (s .machine) h t k)
+
+    threads-back : threadsIn a l ≡ s .machine .threads
+    unfolding threadsIn
+    threads-back =
+        joined-same 8 (λ t. entryOr (entryIn a l t) ∷ []) (λ t. getD (s .machine .threads) (0 + t) zeroThread ∷ [])
+        (λ t k. ap (λ e. entryOr e ∷ []) (entry-back t k) ∙ ap (λ z. entry z ∷ []) (let z : t ≡ 0 + t = omega arith in z))
+        ∙ (joined-read zeroThread 8 0 (s .machine .threads) (omega (arith, eight (s .machine) h)) ∙ take-all 8 (s .machine .threads) (le-of-eq (eight (s .machine) h)))
+
+    pub machine-back : machineIn a l ≡ s .machine
+    unfolding machineIn
+    machine-back =
+        let e = body Hd 0 (omega arith) in
+        (λ i. record { enabled = getD (e i) 1 0; last = getD (e i) 0 0; threads = threads-back i })
+
+    pub record-back : recordIn a l ≡ true
+    unfolding recordIn
+    record-back =
+        two (allBelow 8 (λ t. isEntry (entryIn a l t))) (wellFormed (machineIn a l))
+        (all-intro 8 (λ t. isEntry (entryIn a l t)) (λ t k. ap isEntry (entry-back t k)))
+        (ap wellFormed machine-back ∙ h)
+
+    pub state-back : Words (s .registers) → stateIn a l ≡ s
+    state-back b = (λ i. state (machine-back i) (registers-back b i) (memory-back i))

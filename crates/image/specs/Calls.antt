@@ -1,0 +1,56 @@
+-- What the calls hand back and leave (document 01, "Numbers given back" and "Saved image").
+use Prim.Native.Nat.{ℕ}
+use mathlib.Core.List.{List}
+use mathlib.Core.Option.{Option}
+use lib.ListN.{length}
+use Rattle.answer.specs.Answer.{Answer, given, refused}
+use Rattle.answer.specs.Refusal.{refusedOr}
+use Rattle.execution.specs.State.{State, state}
+use Rattle.machine.specs.Machine.{zeroed}
+use Rattle.image.specs.Answer.{writeAnswered, readAnswered}
+use Rattle.image.specs.Image.{shapeOf, image, stateIn}
+use Rattle.image.specs.Refusal.{writeNumber, readNumber}
+use Rattle.image.specs.Types.{WriteAnswer, Read}
+
+-- Writing: the answer, and the buffer left.
+
+pub record Writing : Type 0 where
+  pub answer : Answer (Unit {0})
+  pub buffer : List ℕ
+
+abbrev pub writing : Answer (Unit {0}) → List ℕ → Writing
+writing answer buffer = record { answer = answer; buffer = buffer }
+
+abbrev pub written : WriteAnswer → List ℕ → Writing
+written r buffer = writing (writeAnswered r) buffer
+
+-- the number that the table gives the writing of a state into a buffer
+abbrev pub writeRefusal : State → List ℕ → Option ℕ
+writeRefusal s buffer = writeNumber (length (s .registers)) (length (s .memory)) (length buffer) (s .machine)
+
+-- "A refusal changes no lent buffer"
+unfoldable pub write : State → List ℕ → Writing
+write s buffer = refusedOr (writeRefusal s buffer) (λ number. writing (refused number) buffer) (writing (given tt) (image s))
+
+-- Reading: the answer, and the machine handed back and left.
+
+pub record Reading : Type 0 where
+  pub answer : Answer (Unit {0})
+  pub left : State
+
+abbrev pub reading : Answer (Unit {0}) → State → Reading
+reading answer left = record { answer = answer; left = left }
+
+abbrev pub restored : Read → List ℕ → List ℕ → Reading
+restored r registers memory = reading (readAnswered (r .answer)) (state (r .machine) registers memory)
+
+-- the number that the table gives the reading of an image into a register room and a memory
+abbrev pub readRefusal : List ℕ → List ℕ → List ℕ → Option ℕ
+readRefusal l registers memory = readNumber l (length registers) (length memory)
+
+-- "A refusal changes no lent buffer .. start and image reading, which get none, hand back a record with every number 0."
+unfoldable pub read : List ℕ → List ℕ → List ℕ → Reading
+read l registers memory =
+    refusedOr (readRefusal l registers memory)
+    (λ number. reading (refused number) (state zeroed registers memory))
+    (reading (given tt) (stateIn (shapeOf memory) l))

@@ -1,0 +1,87 @@
+-- A machine in a saved image, and the machine that an image holds (document 01, "Saved image").
+use Prim.Native.Nat.{ℕ, _*_, _/_, _%_, _≤_}
+use mathlib.Core.Bool.{Bool, true, false, _&&_}
+use mathlib.Core.List.{List, [], _∷_, _++_}
+use mathlib.Core.Path.{_≡_}
+use lib.ListN.{length, getD, take, drop}
+use Rattle.answer.specs.Answer.{Answer, given, refused}
+use Rattle.execution.specs.Registers.{roomWords, scalarPlace, lanePlace}
+use Rattle.execution.specs.State.{State, state}
+use Rattle.machine.specs.Fields.{fields, fieldsOf, threadOf}
+use Rattle.machine.specs.Machine.{zeroThread}
+use Rattle.machine.specs.WellFormed.{wellFormed}
+use Rattle.image.specs.Bytes.{bytesOf, wordsOf}
+use Rattle.image.specs.Join.{joined, allBelow}
+use Rattle.image.specs.Layout.{ofBlocks, rowOf, laidOut, bodyIn}
+use Rattle.image.specs.Types.{Kind, Hd, Th, Sr, Vr, Mm, Shape, Machine, Thread, Fields}
+
+-- the shape of an image goes by the length of the memory
+abbrev pub shapeOf : List ℕ → Shape
+shapeOf memory = ofBlocks (length memory / 64)
+
+-- the lengths of the buffers lent to a call that is not refused
+pub record Lengths (registers memory : List ℕ) : Type 0 where
+  pub room : length registers ≡ roomWords
+  pub whole : 64 * (length memory / 64) ≡ length memory
+  pub few : length memory / 64 ≤ 1024
+
+-- Writing.
+
+-- "status, reason, id, count (0 where not carried)"
+abbrev pub fieldBytes : Fields → List ℕ
+fieldBytes f = f .status ∷ f .reason ∷ f .id ∷ f .count ∷ []
+
+-- what stands behind the place numbers of record i of a kind: "HD, last, enabled; eight TH: .. status, reason, id, count ..; eight SR:
+-- .. 64 words; 512 VR: .. 16 words; MM for each 64-byte block: .. 64 bytes". Thread t has the records 64t to 64t + 63 of VR.
+abbrev pub bodyOf : State → Kind → ℕ → List ℕ
+bodyOf s Hd i = s .machine .last ∷ s .machine .enabled ∷ []
+bodyOf s Th i = fieldBytes (fieldsOf (getD (s .machine .threads) i zeroThread))
+bodyOf s Sr i = bytesOf 64 (drop (scalarPlace i 0) (s .registers))
+bodyOf s Vr i = bytesOf 16 (drop (lanePlace (i / 64) (i % 64) 0) (s .registers))
+bodyOf s Mm i = take 64 (drop (64 * i) (s .memory))
+
+-- the image of a machine
+unfoldable pub image : State → List ℕ
+image s = laidOut (shapeOf (s .memory)) (bodyOf s)
+
+-- Reading.
+
+abbrev pub fieldsIn : List ℕ → Fields
+fieldsIn body = fields (getD body 0 0) (getD body 1 0) (getD body 2 0) (getD body 3 0)
+
+-- whether numbers are read as an entry, and as which
+abbrev pub isEntry : Answer Thread → Bool
+isEntry (given thread) = true
+isEntry (refused number) = false
+
+abbrev pub entryOr : Answer Thread → Thread
+entryOr (given thread) = thread
+entryOr (refused number) = zeroThread
+
+unfoldable pub entryIn : Shape → List ℕ → ℕ → Answer Thread
+entryIn a l t = threadOf (fieldsIn (bodyIn a l Th t))
+
+unfoldable pub threadsIn : Shape → List ℕ → List Thread
+threadsIn a l = joined 8 (λ t. entryOr (entryIn a l t) ∷ [])
+
+-- the machine record that an image of a shape holds, its register room, and its memory
+unfoldable pub machineIn : Shape → List ℕ → Machine
+machineIn a l =
+    record { enabled = getD (bodyIn a l Hd 0) 1 0; last = getD (bodyIn a l Hd 0) 0 0; threads = threadsIn a l }
+
+-- the machine record is well formed, its numbers are in range, and the image fields not carried are 0
+unfoldable pub recordIn : Shape → List ℕ → Bool
+recordIn a l = allBelow 8 (λ t. isEntry (entryIn a l t)) && wellFormed (machineIn a l)
+
+-- the words of every record of a kind, n in each
+unfoldable pub roomIn : Shape → List ℕ → Kind → ℕ → List ℕ
+roomIn a l k n = joined (rowOf a k .count) (λ i. wordsOf n (bodyIn a l k i))
+
+unfoldable pub registersIn : Shape → List ℕ → List ℕ
+registersIn a l = roomIn a l Sr 64 ++ roomIn a l Vr 16
+
+unfoldable pub memoryIn : Shape → List ℕ → List ℕ
+memoryIn a l = joined (rowOf a Mm .count) (bodyIn a l Mm)
+
+abbrev pub stateIn : Shape → List ℕ → State
+stateIn a l = state (machineIn a l) (registersIn a l) (memoryIn a l)

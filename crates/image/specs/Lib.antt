@@ -1,0 +1,10 @@
+-- The saved image: what the contracts cite.
+pub mod Types
+pub mod Join
+pub mod Layout
+pub mod Bytes
+pub mod Image
+pub mod Refusal
+pub mod Answer
+pub mod Calls
+pub mod Claims

@@ -1,0 +1,17 @@
+-- The types that the code declares, and those of the crates below, under one roof.
+pub use Rattle.image.specs.declared.layout.Kind.{Kind}
+pub use Rattle.image.specs.declared.layout.Kind.the-variants.{Hd, Th, Sr, Vr, Mm}
+pub use Rattle.image.specs.declared.layout.Places.{Places}
+pub use Rattle.image.specs.declared.layout.Places.the-variants.{Nothing, ByThread, ByRegister, ByBlock}
+pub use Rattle.image.specs.declared.layout.Shape.{Shape}
+pub use Rattle.image.specs.declared.layout.Row.{Row}
+pub use Rattle.image.specs.declared.outcome.WriteAnswer.{WriteAnswer}
+pub use Rattle.image.specs.declared.outcome.WriteAnswer.the-variants.{Written, Refused as WriteRefused}
+pub use Rattle.image.specs.declared.outcome.ReadAnswer.{ReadAnswer}
+pub use Rattle.image.specs.declared.outcome.ReadAnswer.the-variants.{Restored, Refused as ReadRefused}
+pub use Rattle.image.specs.declared.outcome.Read.{Read}
+pub use Rattle.machine.specs.declared.record.Machine.{Machine}
+pub use Rattle.machine.specs.declared.status.Thread.{Thread}
+pub use Rattle.machine.specs.declared.fields.Fields.{Fields}
+pub use Rattle.machine.specs.declared.fields.EntryReading.{EntryReading}
+pub use Rattle.machine.specs.declared.fields.EntryReading.the-variants.{Entry, Refused as EntryRefused}

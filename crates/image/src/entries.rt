@@ -1,0 +1,111 @@
+// The machine record that an image holds.
+ghost use Prim.Native.Nat.{_+_, _≤_};
+ghost use mathlib.Core.Path.{_≡_};
+ghost use lib.ListN.{length, take, drop};
+ghost use Rattle.machine.specs.Answer.{reading};
+ghost use Rattle.machine.specs.Fields.{threadOf};
+ghost use Rattle.image.specs.Image.{fieldsIn, isEntry, entryOr, entryIn, threadsIn, machineIn, recordIn};
+ghost use Rattle.image.specs.Join.{allBelow};
+ghost use Rattle.image.specs.Layout.{kinds, startOf};
+use crate::layout::Kind;
+use crate::layout::Shape;
+use crate::layout::head_length;
+use crate::layout::record_size;
+use crate::layout::row_of;
+use crate::layout::start_of;
+use machine::EntryReading;
+use machine::Fields;
+use machine::Machine;
+use machine::Status;
+use machine::Thread;
+
+// The eight entries, and whether all of them could be read.
+pub struct Entries {
+    pub read: bool,
+    pub threads: [Thread; 8],
+}
+
+// The record, and whether its numbers are in range and it is well formed.
+pub struct Record {
+    pub accepted: bool,
+    pub machine: Machine,
+}
+
+// Whether numbers are read as an entry.
+fn is_entry(entry: EntryReading) -> bool
+    ensures { λ r. ⌜ r ≡ isEntry (reading entry) ⌝ }
+{
+    match entry {
+        EntryReading::Entry(_) => true,
+        EntryReading::Refused => false,
+    }
+}
+
+// The entry that they are read as; with every number 0 where there is none.
+fn entry_or_zero(entry: EntryReading) -> Thread
+    ensures { λ r. ⌜ r ≡ entryOr (reading entry) ⌝ }
+{
+    match entry {
+        EntryReading::Entry(thread) => thread,
+        EntryReading::Refused => Thread {
+            status: Status::Idle,
+        },
+    }
+}
+
+// The entry whose numbers stand at a place.
+fn entry_at(image: &[u8], at: usize) -> EntryReading
+    requires { ⌜ at + 4 ≤ length (now image) ⌝ }
+    ensures { λ r. ⌜ reading r ≡ threadOf (fieldsIn (take 4 (drop at (now (image .entry))))) ⌝ }
+{
+    Thread::of_fields(Fields {
+        status: image[at],
+        reason: image[at + 1],
+        id: image[at + 2],
+        count: image[at + 3],
+    })
+}
+
+// The eight entries.
+fn entries_in(shape: Shape, image: &[u8]) -> Entries
+    requires { ⌜ (shape .blocks ≤ 1024) × (startOf shape kinds ≤ length (now image)) ⌝ }
+    ensures { λ r. ⌜ (r .read ≡ allBelow 8 (λ t. isEntry (entryIn shape (now (image .entry)) t))) × (r .threads ≡ threadsIn shape (now (image .entry))) ⌝ }
+{
+    let row = row_of(shape, Kind::Th);
+    let size = record_size(row);
+    let places = row.places;
+    let mut at = start_of(shape, Kind::Th) + head_length(places);
+    let mut read = true;
+    let mut threads = [Thread {
+        status: Status::Idle,
+    }; 8];
+    for t in 0..8usize {
+        let entry = entry_at(image, at);
+        read = read & is_entry(entry);
+        threads[t] = entry_or_zero(entry);
+        at += size;
+    }
+    Entries { read, threads }
+}
+
+// The machine record.
+pub fn record_in(shape: Shape, image: &[u8]) -> Record
+    requires { ⌜ (shape .blocks ≤ 1024) × (startOf shape kinds ≤ length (now image)) ⌝ }
+    ensures { λ r. ⌜ (r .accepted ≡ recordIn shape (now (image .entry))) × (r .machine ≡ machineIn shape (now (image .entry))) ⌝ }
+{
+    let row = row_of(shape, Kind::Hd);
+    let places = row.places;
+    let at = start_of(shape, Kind::Hd) + head_length(places);
+    let entries = entries_in(shape, image);
+    let threads = entries.threads;
+    let machine = Machine {
+        enabled: image[at + 1],
+        last: image[at],
+        threads,
+    };
+    let well_formed = machine.well_formed();
+    Record {
+        accepted: entries.read & well_formed,
+        machine,
+    }
+}

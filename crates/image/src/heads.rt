@@ -1,0 +1,107 @@
+// What a record opens with: its mark and place numbers, written and checked.
+ghost use Prim.Native.Nat.{_+_, _≤_};
+ghost use mathlib.Core.Path.{_≡_};
+ghost use lib.ListN.{length};
+ghost use Rattle.image.specs.Join.{Grown};
+ghost use Rattle.image.specs.Layout.{kinds, placesOf, placesLength, Numbered, headLength, headOf, extentOf, startOf, standsAt, headsOf, headsIn};
+use crate::layout::KINDS;
+use crate::layout::Places;
+use crate::layout::Row;
+use crate::layout::Shape;
+use crate::layout::extent_of;
+use crate::layout::kind_at;
+use crate::layout::record_size;
+use crate::layout::row_of;
+
+// The place numbers of record i stored from a place on; the next place.
+fn put_places(places: Places, i: usize, buffer: &mut [u8], at: usize) -> usize
+    requires { ⌜ Numbered places i × (at + placesLength places ≤ length (now buffer)) ⌝ }
+    ensures { λ r. ⌜ Grown (now (buffer .entry)) (now (buffer .exit)) at r (placesOf places i) ⌝ }
+{
+    match places {
+        Places::Nothing => at,
+        Places::ByThread => {
+            buffer[at] = i as u8;
+            at + 1
+        }
+        Places::ByRegister => {
+            buffer[at] = (i / 64) as u8;
+            buffer[at + 1] = (i % 64) as u8;
+            at + 2
+        }
+        Places::ByBlock => {
+            buffer[at] = (i % 256) as u8;
+            buffer[at + 1] = (i / 256) as u8;
+            at + 2
+        }
+    }
+}
+
+// What record i opens with stored from a place on; the next place.
+pub fn put_head(row: Row, i: usize, buffer: &mut [u8], at: usize) -> usize
+    requires { ⌜ Numbered (row .places) i × (at + headLength (row .places) ≤ length (now buffer)) ⌝ }
+    ensures { λ r. ⌜ Grown (now (buffer .entry)) (now (buffer .exit)) at r (headOf row i) ⌝ }
+{
+    let places = row.places;
+    buffer[at] = row.first;
+    buffer[at + 1] = row.second;
+    put_places(places, i, buffer, at + 2)
+}
+
+// Whether the place numbers of record i stand at a place.
+fn places_stand(places: Places, i: usize, image: &[u8], at: usize) -> bool
+    requires { ⌜ at + placesLength places ≤ length (now image) ⌝ }
+    ensures { λ r. ⌜ r ≡ standsAt (placesOf places i) (now (image .entry)) at ⌝ }
+{
+    match places {
+        Places::Nothing => true,
+        Places::ByThread => image[at] as usize == i,
+        Places::ByRegister => (image[at] as usize == i / 64) & (image[at + 1] as usize == i % 64),
+        Places::ByBlock => (image[at] as usize == i % 256) & (image[at + 1] as usize == i / 256),
+    }
+}
+
+// Whether record i opens with its mark and place numbers.
+fn head_stands(row: Row, i: usize, image: &[u8], at: usize) -> bool
+    requires { ⌜ at + headLength (row .places) ≤ length (now image) ⌝ }
+    ensures { λ r. ⌜ r ≡ standsAt (headOf row i) (now (image .entry)) at ⌝ }
+{
+    let places = row.places;
+    let placed = places_stand(places, i, image, at + 2);
+    (image[at] == row.first) & (image[at + 1] == row.second) & placed
+}
+
+// Whether every record of a row that begins at a place opens so.
+fn heads_stand(row: Row, image: &[u8], at: usize) -> bool
+    requires { ⌜ (row .size ≤ 65536) × (at + extentOf row ≤ length (now image)) ⌝ }
+    ensures { λ r. ⌜ r ≡ headsOf row (now (image .entry)) at ⌝ }
+{
+    let count = row.count;
+    let size = record_size(row);
+    let mut p = at;
+    for i in 0..count {
+        let stands = head_stands(row, i, image, p);
+        if !stands {
+            return false;
+        }
+        p += size;
+    }
+    true
+}
+
+// Whether every mark and every place number of the image is right.
+pub fn image_stands(shape: Shape, image: &[u8]) -> bool
+    requires { ⌜ (shape .blocks ≤ 1024) × (startOf shape kinds ≤ length (now image)) ⌝ }
+    ensures { λ r. ⌜ r ≡ headsIn shape (now (image .entry)) ⌝ }
+{
+    let mut at: usize = 0;
+    for position in 0..KINDS {
+        let kind = kind_at(position);
+        let stands = heads_stand(row_of(shape, kind), image, at);
+        if !stands {
+            return false;
+        }
+        at += extent_of(shape, kind);
+    }
+    true
+}

@@ -1,0 +1,91 @@
+// A machine is read from an image.
+ghost use Prim.Native.Nat.{_+_, _*_, _≤_};
+ghost use mathlib.Core.Path.{_≡_};
+ghost use lib.ListN.{length};
+ghost use Rattle.image.specs.Calls.{restored, read};
+ghost use Rattle.image.specs.Image.{roomIn, registersIn, memoryIn};
+ghost use Rattle.image.specs.Join.{Grown};
+ghost use Rattle.image.specs.Layout.{rowOf, kinds, startOf};
+use crate::bytes::copy_eights;
+use crate::bytes::take_words;
+use crate::layout::Kind;
+use crate::layout::Shape;
+use crate::layout::head_length;
+use crate::layout::record_size;
+use crate::layout::row_of;
+use crate::layout::start_of;
+use crate::outcome::Read;
+use crate::outcome::ReadAnswer;
+use crate::verdicts::judge;
+use answer::Verdict;
+
+// The words of every record of a kind, n in each, stored from a place on.
+fn take_room(shape: Shape, kind: Kind, n: usize, image: &[u8], registers: &mut [u32], from: usize)
+    requires { ⌜ (shape .blocks ≤ 1024) × (startOf shape kinds ≤ length (now image)) × (rowOf shape kind .size ≡ 4 * n) × (from + n * rowOf shape kind .count ≤ length (now registers)) ⌝ }
+    ensures { λ _. ⌜ Grown (now (registers .entry)) (now (registers .exit)) from (from + n * rowOf shape kind .count) (roomIn shape (now (image .entry)) kind n) ⌝ }
+{
+    let row = row_of(shape, kind);
+    let count = row.count;
+    let size = record_size(row);
+    let places = row.places;
+    let mut at = start_of(shape, kind) + head_length(places);
+    let mut next = from;
+    for i in 0..count {
+        take_words(image, at, n, registers, next);
+        at += size;
+        next += n;
+    }
+}
+
+// The register room: SR holds its first 512 words, VR the rest.
+fn take_registers(shape: Shape, image: &[u8], registers: &mut [u32])
+    requires { ⌜ (shape .blocks ≤ 1024) × (startOf shape kinds ≤ length (now image)) × (length (now registers) ≡ 8704) ⌝ }
+    ensures { λ _. ⌜ now (registers .exit) ≡ registersIn shape (now (image .entry)) ⌝ }
+{
+    take_room(shape, Kind::Sr, 64, image, registers, 0);
+    take_room(shape, Kind::Vr, 16, image, registers, 512);
+}
+
+// The memory.
+fn take_memory(shape: Shape, image: &[u8], memory: &mut [u8])
+    requires { ⌜ (shape .blocks ≤ 1024) × (startOf shape kinds ≤ length (now image)) × (length (now memory) ≡ 64 * shape .blocks) ⌝ }
+    ensures { λ _. ⌜ now (memory .exit) ≡ memoryIn shape (now (image .entry)) ⌝ }
+{
+    let row = row_of(shape, Kind::Mm);
+    let count = row.count;
+    let size = record_size(row);
+    let places = row.places;
+    let mut at = start_of(shape, Kind::Mm) + head_length(places);
+    let mut next: usize = 0;
+    for i in 0..count {
+        copy_eights(image, at, 8, memory, next);
+        at += size;
+        next += 64;
+    }
+}
+
+// The machine that an image holds is restored: its registers and memory into lent ones.
+pub fn read(image: &[u8], registers: &mut [u32], memory: &mut [u8]) -> Read
+    ensures { λ r. ⌜ restored r (now (registers .exit)) (now (memory .exit)) ≡ read (now (image .entry)) (now (registers .entry)) (now (memory .entry)) ⌝ }
+{
+    let judgement = judge(image, registers.len(), memory.len());
+    let verdict = judgement.verdict;
+    let machine = judgement.machine;
+    match verdict {
+        Verdict::Refused(number) => Read {
+            answer: ReadAnswer::Refused(number),
+            machine,
+        },
+        Verdict::Accepted => {
+            let shape = Shape {
+                blocks: memory.len() / 64,
+            };
+            take_registers(shape, image, registers);
+            take_memory(shape, image, memory);
+            Read {
+                answer: ReadAnswer::Restored,
+                machine,
+            }
+        }
+    }
+}

@@ -1,0 +1,92 @@
+// The numbers that the calls are refused with.
+ghost use Prim.Native.Nat.{_/_, _≤_};
+ghost use mathlib.Core.Option.{some};
+ghost use mathlib.Core.Path.{_≡_};
+ghost use lib.ListN.{length};
+ghost use Rattle.answer.specs.Refusal.{numbered, refusedOr};
+ghost use Rattle.machine.specs.Machine.{zeroed};
+ghost use Rattle.image.specs.Image.{machineIn};
+ghost use Rattle.image.specs.Layout.{ofBlocks, kinds, startOf};
+ghost use Rattle.image.specs.Refusal.{badLength, sizesNumber, recordsNumber, readNumber};
+use crate::entries::record_in;
+use crate::heads::image_stands;
+use crate::layout::Shape;
+use answer::Verdict;
+use answer::bad_memory;
+use answer::bad_registers;
+use machine::Machine;
+
+// The verdict on an image, and the machine record that it holds: the record with every number 0 where it is refused.
+pub struct Judgement {
+    pub verdict: Verdict,
+    pub machine: Machine,
+}
+
+// Whether an image of so many bytes is not that of a memory of so many.
+fn bad_length(bytes: usize, size: usize) -> bool
+    requires { ⌜ bytes ≤ 65536 ⌝ }
+    ensures { λ r. ⌜ r ≡ badLength bytes size ⌝ }
+{
+    size != 36948 + 68 * (bytes / 64)
+}
+
+// Of the words of a register room, the bytes of a memory, and the bytes of an image.
+pub fn sizes_verdict(room: usize, bytes: usize, size: usize) -> Verdict
+    ensures { λ r. ⌜ numbered r ≡ sizesNumber room bytes size ⌝ }
+{
+    let wrong_room = bad_registers(room);
+    let wrong_memory = bad_memory(bytes);
+    if wrong_room {
+        return Verdict::Refused(2);
+    }
+    if wrong_memory {
+        return Verdict::Refused(3);
+    }
+    let wrong_length = bad_length(bytes, size);
+    if wrong_length {
+        return Verdict::Refused(9);
+    }
+    Verdict::Accepted
+}
+
+// An image refused with a number.
+fn refuse(number: u8) -> Judgement
+    ensures { λ r. ⌜ (numbered (r .verdict) ≡ some number) × (r .machine ≡ zeroed) ⌝ }
+{
+    Judgement {
+        verdict: Verdict::Refused(number),
+        machine: Machine::zero(),
+    }
+}
+
+// The verdict on what an image of the right length holds.
+fn judge_records(shape: Shape, image: &[u8]) -> Judgement
+    requires { ⌜ (shape .blocks ≤ 1024) × (startOf shape kinds ≤ length (now image)) ⌝ }
+    ensures { λ r. ⌜ (numbered (r .verdict) ≡ recordsNumber shape (now (image .entry))) × (r .machine ≡ refusedOr (recordsNumber shape (now (image .entry))) (λ n. zeroed) (machineIn shape (now (image .entry)))) ⌝ }
+{
+    let stands = image_stands(shape, image);
+    let record = record_in(shape, image);
+    let machine = record.machine;
+    let accepted = record.accepted;
+    if !stands {
+        return refuse(10);
+    }
+    if !accepted {
+        return refuse(4);
+    }
+    Judgement {
+        verdict: Verdict::Accepted,
+        machine,
+    }
+}
+
+// The verdict on an image that is read into a register room of so many words and a memory of so many bytes.
+pub fn judge(image: &[u8], room: usize, bytes: usize) -> Judgement
+    ensures { λ r. ⌜ (numbered (r .verdict) ≡ readNumber (now (image .entry)) room bytes) × (r .machine ≡ refusedOr (readNumber (now (image .entry)) room bytes) (λ n. zeroed) (machineIn (ofBlocks (bytes / 64)) (now (image .entry)))) ⌝ }
+{
+    let sizes = sizes_verdict(room, bytes, image.len());
+    match sizes {
+        Verdict::Refused(number) => refuse(number),
+        Verdict::Accepted => judge_records(Shape { blocks: bytes / 64 }, image),
+    }
+}

@@ -1,0 +1,146 @@
+// A machine is written as an image.
+ghost use Prim.Native.Nat.{_+_, _<_, _≤_};
+ghost use mathlib.Core.Path.{_≡_};
+ghost use lib.ListN.{length};
+ghost use Rattle.execution.specs.State.{state};
+ghost use Rattle.image.specs.Calls.{written, write};
+ghost use Rattle.image.specs.Image.{shapeOf, Lengths, fieldBytes, bodyOf, image};
+ghost use Rattle.image.specs.Join.{Grown};
+ghost use Rattle.image.specs.Layout.{rowOf, kinds, recordSize, extentOf, recordOf, sectionOf, startOf};
+use crate::bytes::copy_eights;
+use crate::bytes::put_words;
+use crate::heads::put_head;
+use crate::layout::KINDS;
+use crate::layout::Kind;
+use crate::layout::Shape;
+use crate::layout::kind_at;
+use crate::layout::row_of;
+use crate::outcome::WriteAnswer;
+use crate::verdicts::sizes_verdict;
+use answer::Verdict;
+use machine::Fields;
+use machine::Machine;
+
+// An entry's numbers stored from a place on.
+fn put_fields(fields: Fields, buffer: &mut [u8], at: usize)
+    requires { ⌜ at + 4 ≤ length (now buffer) ⌝ }
+    ensures { λ _. ⌜ Grown (now (buffer .entry)) (now (buffer .exit)) at (at + 4) (fieldBytes fields) ⌝ }
+{
+    buffer[at] = fields.status;
+    buffer[at + 1] = fields.reason;
+    buffer[at + 2] = fields.id;
+    buffer[at + 3] = fields.count;
+}
+
+// What stands behind the place numbers of record i, stored from a place on; the next place.
+fn put_body(
+    kind: Kind,
+    registers: &[u32],
+    memory: &[u8],
+    machine: Machine,
+    i: usize,
+    buffer: &mut [u8],
+    at: usize,
+) -> usize
+    requires { ⌜ Lengths (now registers) (now memory) × (i < rowOf (shapeOf (now memory)) kind .count) × (at + rowOf (shapeOf (now memory)) kind .size ≤ length (now buffer)) ⌝ }
+    ensures { λ r. ⌜ Grown (now (buffer .entry)) (now (buffer .exit)) at r (bodyOf (state machine (now (registers .entry)) (now (memory .entry))) kind i) ⌝ }
+{
+    match kind {
+        Kind::Hd => {
+            buffer[at] = machine.last;
+            buffer[at + 1] = machine.enabled;
+            at + 2
+        }
+        Kind::Th => {
+            let entry = machine.threads[i];
+            put_fields(entry.fields(), buffer, at);
+            at + 4
+        }
+        Kind::Sr => {
+            put_words(registers, 64 * i, 64, buffer, at);
+            at + 256
+        }
+        Kind::Vr => {
+            put_words(registers, 512 + 16 * i, 16, buffer, at);
+            at + 64
+        }
+        Kind::Mm => {
+            copy_eights(memory, 64 * i, 8, buffer, at);
+            at + 64
+        }
+    }
+}
+
+// Record i of a kind stored from a place on; the next place.
+fn put_record(
+    kind: Kind,
+    registers: &[u32],
+    memory: &[u8],
+    machine: Machine,
+    i: usize,
+    buffer: &mut [u8],
+    at: usize,
+) -> usize
+    requires { ⌜ Lengths (now registers) (now memory) × (i < rowOf (shapeOf (now memory)) kind .count) × (at + recordSize (rowOf (shapeOf (now memory)) kind) ≤ length (now buffer)) ⌝ }
+    ensures { λ r. ⌜ Grown (now (buffer .entry)) (now (buffer .exit)) at r (recordOf (rowOf (shapeOf (now (memory .entry))) kind) (bodyOf (state machine (now (registers .entry)) (now (memory .entry))) kind) i) ⌝ }
+{
+    let shape = Shape {
+        blocks: memory.len() / 64,
+    };
+    let row = row_of(shape, kind);
+    let next = put_head(row, i, buffer, at);
+    put_body(kind, registers, memory, machine, i, buffer, next)
+}
+
+// Every record of a kind stored from a place on; the next place.
+fn put_section(
+    kind: Kind,
+    registers: &[u32],
+    memory: &[u8],
+    machine: Machine,
+    buffer: &mut [u8],
+    at: usize,
+) -> usize
+    requires { ⌜ Lengths (now registers) (now memory) × (at + extentOf (rowOf (shapeOf (now memory)) kind) ≤ length (now buffer)) ⌝ }
+    ensures { λ r. ⌜ Grown (now (buffer .entry)) (now (buffer .exit)) at r (sectionOf (rowOf (shapeOf (now (memory .entry))) kind) (bodyOf (state machine (now (registers .entry)) (now (memory .entry))) kind)) ⌝ }
+{
+    let shape = Shape {
+        blocks: memory.len() / 64,
+    };
+    let row = row_of(shape, kind);
+    let count = row.count;
+    let mut next = at;
+    for i in 0..count {
+        next = put_record(kind, registers, memory, machine, i, buffer, next);
+    }
+    next
+}
+
+// Every kind's records.
+fn put_image(registers: &[u32], memory: &[u8], machine: Machine, buffer: &mut [u8])
+    requires { ⌜ Lengths (now registers) (now memory) × (startOf (shapeOf (now memory)) kinds ≡ length (now buffer)) ⌝ }
+    ensures { λ _. ⌜ now (buffer .exit) ≡ image (state machine (now (registers .entry)) (now (memory .entry))) ⌝ }
+{
+    let mut next: usize = 0;
+    for position in 0..KINDS {
+        next = put_section(kind_at(position), registers, memory, machine, buffer, next);
+    }
+}
+
+// The image of a machine is written into a buffer of exactly its length.
+pub fn write(registers: &[u32], memory: &[u8], machine: Machine, buffer: &mut [u8]) -> WriteAnswer
+    ensures { λ r. ⌜ written r (now (buffer .exit)) ≡ write (state machine (now (registers .entry)) (now (memory .entry))) (now (buffer .entry)) ⌝ }
+{
+    let sizes = sizes_verdict(registers.len(), memory.len(), buffer.len());
+    match sizes {
+        Verdict::Refused(number) => WriteAnswer::Refused(number),
+        Verdict::Accepted => {
+            let well_formed = machine.well_formed();
+            if !well_formed {
+                return WriteAnswer::Refused(4);
+            }
+            put_image(registers, memory, machine, buffer);
+            WriteAnswer::Written
+        }
+    }
+}
