@@ -54,7 +54,8 @@ impl Record {
     /// as many wait at the id as the count says, all of them are running." Whether it did not trap.
     pub fn meet(&mut self, t: usize, id: u32, second: u32) -> bool {
         let disputed = |r: &Record| {
-            (0..8).any(|u| u != t && matches!(r.threads[u], Status::Waiting { id: i, count } if i as u32 == id && count as u32 != second + 1))
+            (0..8)
+                .any(|u| u != t && matches!(r.threads[u], Status::Waiting { id: i, count } if i as u32 == id && count as u32 != second + 1))
         };
         if id > 31 || second > 7 || disputed(self) {
             self.threads[t] = Status::Trapped(5);

@@ -190,7 +190,12 @@ fn laid_out(instruction: Instruction) -> u32 {
             at(opcode as u32, 24, 6) | at(d as u32, 18, 6) | at(a as u32, 12, 6) | at(b as u32, 6, 6) | at(flags as u32, 1, 3)
         }
         Instruction::I { opcode, flags, d, a, immediate } => {
-            0b010 << 29 | at(opcode as u32, 24, 5) | at(d as u32, 18, 6) | at(a as u32, 12, 6) | at(immediate as u32, 3, 9) | at(flags as u32, 1, 2)
+            0b010 << 29
+                | at(opcode as u32, 24, 5)
+                | at(d as u32, 18, 6)
+                | at(a as u32, 12, 6)
+                | at(immediate as u32, 3, 9)
+                | at(flags as u32, 1, 2)
         }
         Instruction::Movei { opcode, flag, d, immediate } => {
             0b01100 << 27 | at(opcode as u32, 24, 3) | at(d as u32, 18, 6) | at(immediate, 2, 16) | at(flag as u32, 1, 1)
