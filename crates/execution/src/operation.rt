@@ -1,10 +1,11 @@
 // The operations of R and I: register d from operands a and b.
 ghost use mathlib.Core.Path.{_≡_};
-ghost use mathlib.Core.Bool.{cond};
+ghost use mathlib.Core.Bool.{cond, false};
 ghost use Prim.Native.Nat.{_<_};
 ghost use Rattle.execution.specs.Operand.{Named};
 ghost use Rattle.execution.specs.Operation.{binaryInto, unaryInto, compareInto, shuffleInto, getLaneInto, operate, operateR, operateI};
 ghost use Rattle.execution.specs.Registers.{InRoom};
+ghost use Rattle.execution.specs.Types.{Scalar};
 use crate::operand;
 use crate::operand::Source;
 use crate::registers;
@@ -98,27 +99,52 @@ fn operate(room: &mut [u32], t: usize, op: Operation, flag: bool, d: u8, a: Sour
     }
 }
 
+// The same for scalars alone, which most instructions are on: it is small enough to stand where it is called.
+fn operate_scalars(room: &mut [u32], t: usize, op: Operation, d: u8, x: u32, y: u32)
+    requires { ⌜ InRoom (now room) t × (d < 64) ⌝ }
+    ensures { λ _. ⌜ now (room .exit) ≡ operate (now (room .entry)) t op false d (Scalar x) (Scalar y) ⌝ }
+{
+    match op {
+        Operation::Binary(o) => registers::set_scalar(room, t, d, alu::binary(o, x, y)),
+        Operation::Unary(o) => registers::set_scalar(room, t, d, alu::unary(o, x)),
+        Operation::Compare(o) => registers::set_scalar(room, t, d, number(alu::compare(o, x, y))),
+        Operation::Shuffle => shuffle(room, t, d, Source::Scalar(x), Source::Scalar(y)),
+        Operation::GetLane => get_lane(room, t, d, Source::Scalar(x), Source::Scalar(y)),
+    }
+}
+
 pub fn operate_r(room: &mut [u32], t: usize, op: Operation, flags: u8, d: u8, a: u8, b: u8)
     requires { ⌜ InRoom (now room) t × (d < 64) × (a < 64) × (b < 64) ⌝ }
     ensures { λ _. ⌜ now (room .exit) ≡ operateR (now (room .entry)) t op flags d a b ⌝ }
 {
-    let x = operand::select(room, t, alu::is_on(flags as u32, 1), a);
-    let y = operand::select(room, t, alu::is_on(flags as u32, 0), b);
-    operate(room, t, op, alu::is_on(flags as u32, 2), d, x, y);
+    if flags == 0 {
+        let x = registers::scalar(room, t, a);
+        let y = registers::scalar(room, t, b);
+        operate_scalars(room, t, op, d, x, y);
+    } else {
+        let x = operand::select(room, t, alu::is_on(flags as u32, 1), a);
+        let y = operand::select(room, t, alu::is_on(flags as u32, 0), b);
+        operate(room, t, op, alu::is_on(flags as u32, 2), d, x, y);
+    }
 }
 
 pub fn operate_i(room: &mut [u32], t: usize, op: Operation, flags: u8, d: u8, a: u8, immediate: u32)
     requires { ⌜ InRoom (now room) t × (d < 64) × (a < 64) ⌝ }
     ensures { λ _. ⌜ now (room .exit) ≡ operateI (now (room .entry)) t op flags d a immediate ⌝ }
 {
-    let x = operand::select(room, t, alu::is_on(flags as u32, 0), a);
-    operate(
-        room,
-        t,
-        op,
-        alu::is_on(flags as u32, 1),
-        d,
-        x,
-        Source::Scalar(immediate),
-    );
+    if flags == 0 {
+        let x = registers::scalar(room, t, a);
+        operate_scalars(room, t, op, d, x, immediate);
+    } else {
+        let x = operand::select(room, t, alu::is_on(flags as u32, 0), a);
+        operate(
+            room,
+            t,
+            op,
+            alu::is_on(flags as u32, 1),
+            d,
+            x,
+            Source::Scalar(immediate),
+        );
+    }
 }

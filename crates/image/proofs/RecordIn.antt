@@ -11,8 +11,8 @@ use Rattle.machine.specs.Fields.{fields, threadOf}
 use Rattle.machine.specs.WellFormed.{wellFormed}
 use Rattle.image.specs.Image.{fieldsIn, isEntry, entryOr, entryIn, threadsIn, machineIn, recordIn}
 use Rattle.image.specs.Join.{joined, allBelow, Grown}
-use Rattle.image.specs.Layout.{rowOf, kinds, orderOf, headLength, recordSize, startOf, bodyPlace, bodyAt}
-use Rattle.image.specs.Types.{Hd, Th, Shape, Kind, Row, Thread, Machine}
+use Rattle.image.specs.Layout.{rowOf, kinds, orderOf, recordSize, startOf, bodyPlace, bodyAt}
+use Rattle.image.specs.Types.{Hd, Th, Shape, Kind, Thread, Machine}
 use Rattle.image.proofs.Join.{grown-whole, length-even}
 use Rattle.image.proofs.Parts.{joined-same}
 use Rattle.image.proofs.Rows.{record-room, kind-room}
@@ -28,20 +28,18 @@ part-first l at w h = part-byte l at w 0 h ∙ ap (λ z. getD l z 0) (let z : at
 pub fields-at : (l : List ℕ) (at : ℕ) → fields (getD l at 0) (getD l (at + 1) 0) (getD l (at + 2) 0) (getD l (at + 3) 0) ≡ fieldsIn (take 4 (drop at l))
 fields-at l at = rw (part-first l at 4 (omega arith), part-byte l at 4 1 (omega arith), part-byte l at 4 2 (omega arith), part-byte l at 4 3 (omega arith))
 
--- Fixed places: `at` is where the first body of a kind stands, and `size` what a record has.
+-- Fixed places.
 
 module _ (s : Shape) (k : Kind) where
-  abbrev r : Row
-  r = rowOf s k
-
   abbrev start : ℕ
   start = startOf s (orderOf k)
 
-  pub body-place : (at size : ℕ) → at ≡ start + headLength (r .places) → size ≡ recordSize r → (i : ℕ) → at + size * i ≡ bodyPlace r start i
-  body-place at size e f i = (λ n. e n + f n * i) ∙ omega arith
+  -- the bodies of a kind stand one record apart
+  pub fixed-place : (first size : ℕ) → first ≡ bodyPlace (rowOf s k) start 0 → size ≡ recordSize (rowOf s k) → (i : ℕ) → first + size * i ≡ bodyPlace (rowOf s k) start i
+  fixed-place first size e f i = (λ n. e n + f n * i) ∙ omega arith
 
-  pub body-room : (i len : ℕ) → i < r .count → startOf s kinds ≤ len → bodyPlace r start i + r .size ≤ len
-  body-room i len h e = omega (arith, record-room r start i (startOf s kinds) h (kind-room s k))
+  pub body-room : (i len : ℕ) → i < rowOf s k .count → startOf s kinds ≤ len → bodyPlace (rowOf s k) start i + rowOf s k .size ≤ len
+  body-room i len h e = omega (arith, record-room (rowOf s k) start i (startOf s kinds) h (kind-room s k))
 
 -- The entries.
 

@@ -9,10 +9,9 @@ ghost use Rattle.image.specs.Join.{allBelow};
 ghost use Rattle.image.specs.Layout.{kinds, startOf};
 use crate::layout::Kind;
 use crate::layout::Shape;
-use crate::layout::head_length;
+use crate::layout::first_body;
 use crate::layout::record_size;
 use crate::layout::row_of;
-use crate::layout::start_of;
 use machine::EntryReading;
 use machine::Fields;
 use machine::Machine;
@@ -73,8 +72,7 @@ fn entries_in(shape: Shape, image: &[u8]) -> Entries
 {
     let row = row_of(shape, Kind::Th);
     let size = record_size(row);
-    let places = row.places;
-    let mut at = start_of(shape, Kind::Th) + head_length(places);
+    let mut at = first_body(shape, Kind::Th);
     let mut read = true;
     let mut threads = [Thread {
         status: Status::Idle,
@@ -93,9 +91,7 @@ pub fn record_in(shape: Shape, image: &[u8]) -> Record
     requires { ⌜ (shape .blocks ≤ 1024) × (startOf shape kinds ≤ length (now image)) ⌝ }
     ensures { λ r. ⌜ (r .accepted ≡ recordIn shape (now (image .entry))) × (r .machine ≡ machineIn shape (now (image .entry))) ⌝ }
 {
-    let row = row_of(shape, Kind::Hd);
-    let places = row.places;
-    let at = start_of(shape, Kind::Hd) + head_length(places);
+    let at = first_body(shape, Kind::Hd);
     let entries = entries_in(shape, image);
     let threads = entries.threads;
     let machine = Machine {

@@ -1,7 +1,7 @@
 // The layout of an image: a table of record kinds, and the fixed places that follow from it.
 ghost use Prim.Native.Nat.{_<_, _≤_};
 ghost use mathlib.Core.Path.{_≡_};
-ghost use Rattle.image.specs.Layout.{rowOf, kindAt, kinds, orderOf, headLength, recordSize, extentOf, startOf};
+ghost use Rattle.image.specs.Layout.{rowOf, kindAt, kinds, orderOf, headLength, recordSize, extentOf, startOf, bodyPlace};
 
 // The kinds of records, in the order of the image.
 pub enum Kind {
@@ -64,12 +64,13 @@ fn order_of(kind: Kind) -> usize
 pub fn row_of(shape: Shape, kind: Kind) -> Row
     ensures { λ r. ⌜ r ≡ rowOf shape kind ⌝ }
 {
+    let blocks = shape.blocks;
     match kind {
         Kind::Hd => row_with(b'H', b'D', Places::Nothing, 1, 2),
         Kind::Th => row_with(b'T', b'H', Places::ByThread, 8, 4),
         Kind::Sr => row_with(b'S', b'R', Places::ByThread, 8, 256),
         Kind::Vr => row_with(b'V', b'R', Places::ByRegister, 512, 64),
-        Kind::Mm => row_with(b'M', b'M', Places::ByBlock, shape.blocks, 64),
+        Kind::Mm => row_with(b'M', b'M', Places::ByBlock, blocks, 64),
     }
 }
 
@@ -87,7 +88,7 @@ fn row_with(first: u8, second: u8, places: Places, count: usize, size: usize) ->
 }
 
 // The bytes of a mark and place numbers.
-pub fn head_length(places: Places) -> usize
+fn head_length(places: Places) -> usize
     ensures { λ r. ⌜ r ≡ headLength places ⌝ }
 {
     match places {
@@ -117,7 +118,7 @@ pub fn extent_of(shape: Shape, kind: Kind) -> usize
 }
 
 // Where a kind begins.
-pub fn start_of(shape: Shape, kind: Kind) -> usize
+fn start_of(shape: Shape, kind: Kind) -> usize
     requires { ⌜ shape .blocks ≤ 1024 ⌝ }
     ensures { λ r. ⌜ r ≡ startOf shape (orderOf kind) ⌝ }
 {
@@ -128,4 +129,14 @@ pub fn start_of(shape: Shape, kind: Kind) -> usize
         at += extent;
     }
     at
+}
+
+// Where the body of a kind's first record begins; the next bodies follow a record apart.
+pub fn first_body(shape: Shape, kind: Kind) -> usize
+    requires { ⌜ shape .blocks ≤ 1024 ⌝ }
+    ensures { λ r. ⌜ r ≡ bodyPlace (rowOf shape kind) (startOf shape (orderOf kind)) 0 ⌝ }
+{
+    let row = row_of(shape, kind);
+    let places = row.places;
+    start_of(shape, kind) + head_length(places)
 }

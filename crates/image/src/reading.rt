@@ -10,10 +10,9 @@ use crate::bytes::copy_eights;
 use crate::bytes::take_words;
 use crate::layout::Kind;
 use crate::layout::Shape;
-use crate::layout::head_length;
+use crate::layout::first_body;
 use crate::layout::record_size;
 use crate::layout::row_of;
-use crate::layout::start_of;
 use crate::outcome::Read;
 use crate::outcome::ReadAnswer;
 use crate::verdicts::judge;
@@ -27,8 +26,7 @@ fn take_room(shape: Shape, kind: Kind, n: usize, image: &[u8], registers: &mut [
     let row = row_of(shape, kind);
     let count = row.count;
     let size = record_size(row);
-    let places = row.places;
-    let mut at = start_of(shape, kind) + head_length(places);
+    let mut at = first_body(shape, kind);
     let mut next = from;
     for i in 0..count {
         take_words(image, at, n, registers, next);
@@ -54,8 +52,7 @@ fn take_memory(shape: Shape, image: &[u8], memory: &mut [u8])
     let row = row_of(shape, Kind::Mm);
     let count = row.count;
     let size = record_size(row);
-    let places = row.places;
-    let mut at = start_of(shape, Kind::Mm) + head_length(places);
+    let mut at = first_body(shape, Kind::Mm);
     let mut next: usize = 0;
     for i in 0..count {
         copy_eights(image, at, 8, memory, next);

@@ -7,11 +7,10 @@ use native.Mathlib.Nat.{mul-suc}
 use native.Mathlib.Numerals.{add-one}
 use Rattle.image.specs.Image.{isEntry, entryOr}
 use Rattle.image.specs.Join.{joined, allBelow, Grown}
-use Rattle.image.specs.Layout.{rowOf, orderOf, headLength, recordSize, startOf}
+use Rattle.image.specs.Layout.{recordSize}
 use Rattle.image.specs.Types.{Th}
 use Rattle.image.proofs.Join.{grown-start, grown-join, grown-one, grown-new, grown-end}
-use Rattle.image.proofs.RecordIn.{body-place, body-room, entryAt, entries-read, threads-read}
-use Rattle.image.proofs.Rows.{kind-room}
+use Rattle.image.proofs.RecordIn.{fixed-place, body-room, entryAt, entries-read, threads-read}
 use Rattle.image.proofs.Tests.{all-none, all-next}
 use native.Mathlib.Omega.{arith}
 use borrow.Author.Needs.{needs}
@@ -24,64 +23,48 @@ Inv-loop image size at₀ read₀ threads₀ t₀ at read threads t = (t ≤ 8) 
 abbrev μ-loop : tie.MeasureT-loop
 μ-loop image size at₀ read₀ threads₀ t₀ at read threads t = 8 - t
 
-add-at : tie.Need-add-at Inv-loop μ-loop
-add-at c =
-    let h = ap (λ r. headLength (r .places)) (c .before .before .before .row-of .ensures) in
-    omega (arith, c .before .start-of .ensures, c .head-length .ensures, h, kind-room (c .before .before .before .before .before .args .shape) Th, c .before .before .before .before .before .pre .1)
-
 entry-at-requires : tie.Need-entry-at-requires Inv-loop μ-loop
 entry-at-requires c κs =
-    let a = c .before .before .before .before .before .before .before .args in
-    let h = ap (λ r. headLength (r .places)) (c .before .before .before .before .before .row-of .ensures) in
-    let p : c .before .before .before .start-of .result + c .before .before .head-length .result ≡ startOf (a .shape) (orderOf Th) + headLength (rowOf (a .shape) Th .places) = (λ i. c .before .before .before .start-of .ensures i + (c .before .before .head-length .ensures ∙ h) i) in
-    let z : c .before .before .before .before .record-size .result ≡ recordSize (rowOf (a .shape) Th) = c .before .before .before .before .record-size .ensures ∙ ap recordSize (c .before .before .before .before .before .row-of .ensures) in
-    let at = c .before .before .before .start-of .result + c .before .before .head-length .result in
-    let place = body-place (a .shape) Th at (c .before .before .before .before .record-size .result) p z in
+    let a = c .before .before .before .before .before .before .args in
+    let place = fixed-place (a .shape) Th (c .before .before .first-body .result) (c .before .before .before .record-size .result) (c .before .before .first-body .ensures) (c .before .before .before .record-size .ensures ∙ ap recordSize (c .before .before .before .before .row-of .ensures)) in
     let l = c .before .loop in
-    omega (arith, l .inv .1, place (l .t), body-room (a .shape) Th (l .t) _ (c .loop-test .taken) (c .before .before .before .before .before .before .before .pre .1))
+    omega (arith, l .inv .1, place (l .t), body-room (a .shape) Th (l .t) _ (c .loop-test .taken) (c .before .before .before .before .before .before .pre .1))
 
-add-at-2 : tie.Need-add-at-2 Inv-loop μ-loop
-add-at-2 c =
-    let a = c .before .before .before .before .before .before .before .before .before .before .args in
-    let h = ap (λ r. headLength (r .places)) (c .before .before .before .before .before .before .before .before .row-of .ensures) in
-    let p : c .before .before .before .before .before .before .start-of .result + c .before .before .before .before .before .head-length .result ≡ startOf (a .shape) (orderOf Th) + headLength (rowOf (a .shape) Th .places) = (λ i. c .before .before .before .before .before .before .start-of .ensures i + (c .before .before .before .before .before .head-length .ensures ∙ h) i) in
-    let z : c .before .before .before .before .before .before .before .record-size .result ≡ recordSize (rowOf (a .shape) Th) = c .before .before .before .before .before .before .before .record-size .ensures ∙ ap recordSize (c .before .before .before .before .before .before .before .before .row-of .ensures) in
-    let at = c .before .before .before .before .before .before .start-of .result + c .before .before .before .before .before .head-length .result in
-    let place = body-place (a .shape) Th at (c .before .before .before .before .before .before .before .record-size .result) p z in
+add-at : tie.Need-add-at Inv-loop μ-loop
+add-at c =
+    let a = c .before .before .before .before .before .before .before .before .before .args in
+    let place = fixed-place (a .shape) Th (c .before .before .before .before .before .first-body .result) (c .before .before .before .before .before .before .record-size .result) (c .before .before .before .before .before .first-body .ensures) (c .before .before .before .before .before .before .record-size .ensures ∙ ap recordSize (c .before .before .before .before .before .before .before .row-of .ensures)) in
     let l = c .before .before .before .before .loop in
-    omega (arith, l .inv .1, place (l .t), z, body-room (a .shape) Th (l .t) _ (c .before .before .before .loop-test .taken) (c .before .before .before .before .before .before .before .before .before .before .pre .1))
+    omega (arith, l .inv .1, place (l .t), c .before .before .before .before .before .before .record-size .ensures ∙ ap recordSize (c .before .before .before .before .before .before .before .row-of .ensures), body-room (a .shape) Th (l .t) _ (c .before .before .before .loop-test .taken) (c .before .before .before .before .before .before .before .before .before .pre .1))
 
 loop-again : tie.Need-loop-again Inv-loop μ-loop
 loop-again c =
-    let a = c .before .before .before .before .before .before .before .before .before .before .args in
+    let image = c .before .before .before .before .before .before .before .before .before .args .image .now in
     let l = c .before .before .before .before .loop in
-    let at = c .before .before .before .before .before .before .start-of .result + c .before .before .before .before .before .head-length .result in
-    let size = c .before .before .before .before .before .before .before .record-size .result in
-    let f = ap (entryAt (a .image .now)) (l .inv .1) in
-    let n : l .at + size ≡ at + size * (l .t + 1) = omega (arith, l .inv .1, mul-suc size (l .t), ap (λ n. size * n) (add-one (l .t))) in
+    let at = c .before .before .before .before .before .first-body .result in
+    let size = c .before .before .before .before .before .before .record-size .result in
+    let f = ap (entryAt image) (l .inv .1) in
     let e = c .before .is-entry .ensures ∙ ap isEntry (c .before .before .entry-at .ensures ∙ f) in
     let x = c .entry-or-zero .ensures ∙ ap entryOr (c .before .before .entry-at .ensures ∙ f) in (
       omega (arith, c .before .before .before .loop-test .taken),
-      n,
-      (λ i. l .inv .2 i && e i) ∙ sym (all-next (l .t) (λ k. isEntry (entryAt (a .image .now) (at + size * k)))),
-      grown-join (l .t) (λ k. entryOr (entryAt (a .image .now) (at + size * k)) ∷ []) (l .inv .3)
+      omega (arith, l .inv .1, mul-suc size (l .t), ap (λ n. size * n) (add-one (l .t))),
+      (λ i. l .inv .2 i && e i) ∙ sym (all-next (l .t) (λ k. isEntry (entryAt image (at + size * k)))),
+      grown-join (l .t) (λ k. entryOr (entryAt image (at + size * k)) ∷ []) (l .inv .3)
           (grown-new (ap (λ y. y ∷ []) x) (grown-one (l .threads) (l .t) _ (omega (arith, l .inv .3 .size, c .before .before .before .loop-test .taken)))),
     )
 
 returns : tie.Need-returns Inv-loop μ-loop
 returns c =
-    let a = c .before .before .before .before .before .before .before .args in
-    let h = ap (λ r. headLength (r .places)) (c .before .before .before .before .before .row-of .ensures) in
-    let p : c .before .before .before .start-of .result + c .before .before .head-length .result ≡ startOf (a .shape) (orderOf Th) + headLength (rowOf (a .shape) Th .places) = (λ i. c .before .before .before .start-of .ensures i + (c .before .before .head-length .ensures ∙ h) i) in
-    let z : c .before .before .before .before .record-size .result ≡ recordSize (rowOf (a .shape) Th) = c .before .before .before .before .record-size .ensures ∙ ap recordSize (c .before .before .before .before .before .row-of .ensures) in
-    let at = c .before .before .before .start-of .result + c .before .before .head-length .result in
-    let place = body-place (a .shape) Th at (c .before .before .before .before .record-size .result) p z in
+    let a = c .before .before .before .before .before .before .args in
+    let place = fixed-place (a .shape) Th (c .before .before .first-body .result) (c .before .before .before .record-size .result) (c .before .before .first-body .ensures) (c .before .before .before .record-size .ensures ∙ ap recordSize (c .before .before .before .before .row-of .ensures)) in
     let l = c .before .loop in
+    let image = a .image .now in
+    let at = c .before .before .first-body .result in
+    let size = c .before .before .before .record-size .result in
     let e : l .t ≡ 8 = omega (arith, l .inv .0, c .loop-test .left) in
-    let b = ap (λ n. allBelow n (λ k. isEntry (entryAt (a .image .now) (at + c .before .before .before .before .record-size .result * k)))) e in (
-      l .inv .2 ∙ (b ∙ entries-read (a .shape) (a .image .now) at (c .before .before .before .before .record-size .result) place),
-      threads-read (a .shape) (a .image .now) at (c .before .before .before .before .record-size .result) place refl (grown-end (l .t) 8 (λ k. entryOr (entryAt (a .image .now) (at + c .before .before .before .before .record-size .result * k)) ∷ []) (l .inv .3) (l .inv .0) (omega (arith, c .loop-test .left))),
-    )
+    let b = ap (λ n. allBelow n (λ k. isEntry (entryAt image (at + size * k)))) e in
+    let g = grown-end (l .t) 8 (λ k. entryOr (entryAt image (at + size * k)) ∷ []) (l .inv .3) (l .inv .0) (omega (arith, c .loop-test .left)) in
+    (l .inv .2 ∙ (b ∙ entries-read (a .shape) image at size place), threads-read (a .shape) image at size place refl g)
 
 pub entries-in-spec : {M : Type 1} → statement M
 entries-in-spec =
@@ -92,15 +75,13 @@ entries-in-spec =
     (λ c κs. search needs)
     (λ c κs. rw (c .row-of .ensures) (omega arith))
     (λ c κs. c .before .before .before .pre .0)
-    (λ c κs. search needs)
-    add-at
     (λ c. (omega arith, omega arith, sym (all-none _), grown-start _ 0 _))
     entry-at-requires
     (λ c κs. search needs)
     (λ c κs. search needs)
     (λ c. search needs)
     (λ c. c .before .before .before .loop-test .taken)
-    add-at-2
+    add-at
     (λ c. omega (arith, c .before .before .before .loop-test .taken))
     (λ c. omega arith)
     loop-again

@@ -5,12 +5,11 @@ use native.Mathlib.Nat.{mul-suc}
 use native.Mathlib.Numerals.{add-one}
 use lib.ListN.{take, drop}
 use Rattle.image.specs.Join.{joined, Grown}
-use Rattle.image.specs.Layout.{rowOf, orderOf, headLength, recordSize, startOf}
+use Rattle.image.specs.Layout.{rowOf, recordSize}
 use Rattle.image.specs.Types.{Mm}
 use Rattle.image.proofs.Join.{grown-start, grown-join, grown-end, grown-new, grown-whole}
-use Rattle.image.proofs.RecordIn.{body-place, body-room}
+use Rattle.image.proofs.RecordIn.{fixed-place, body-room}
 use Rattle.image.proofs.Rooms.{memory-read, memory-length}
-use Rattle.image.proofs.Rows.{kind-room}
 use native.Mathlib.Omega.{arith}
 use borrow.Author.Needs.{needs}
 use Rattle.image.proofs.reading.take_memory.Statement.{statement}
@@ -22,79 +21,58 @@ Inv-loop image memory₀ count size at₀ next₀ i₀ memory at next i = (i ≤
 abbrev μ-loop : tie.MeasureT-loop
 μ-loop image memory₀ count size at₀ next₀ i₀ memory at next i = count - i
 
-add-at : tie.Need-add-at Inv-loop μ-loop
-add-at c =
-    let h = ap (λ r. headLength (r .places)) (c .before .before .before .row-of .ensures) in
-    omega (arith, c .before .start-of .ensures, c .head-length .ensures, h, kind-room (c .before .before .before .before .before .before .args .shape) Mm, c .before .before .before .before .before .before .pre .1)
-
 copy-eights-requires : tie.Need-copy-eights-requires Inv-loop μ-loop
 copy-eights-requires c κs =
-    let a = c .before .before .before .before .before .before .before .before .before .args in
-    let h = ap (λ r. headLength (r .places)) (c .before .before .before .before .before .before .row-of .ensures) in
-    let p : c .before .before .before .before .start-of .result + c .before .before .before .head-length .result ≡ startOf (a .shape) (orderOf Mm) + headLength (rowOf (a .shape) Mm .places) = (λ i. c .before .before .before .before .start-of .ensures i + (c .before .before .before .head-length .ensures ∙ h) i) in
-    let z : c .before .before .before .before .before .record-size .result ≡ recordSize (rowOf (a .shape) Mm) = c .before .before .before .before .before .record-size .ensures ∙ ap recordSize (c .before .before .before .before .before .before .row-of .ensures) in
-    let at = c .before .before .before .before .start-of .result + c .before .before .before .head-length .result in
-    let place = body-place (a .shape) Mm at (c .before .before .before .before .before .record-size .result) p z in
-    let e : c .before .before .before .before .before .before .row-of .result .count ≡ rowOf (a .shape) Mm .count = ap (λ r. r .count) (c .before .before .before .before .before .before .row-of .ensures) in
+    let a = c .before .before .before .before .before .before .before .before .args in
+    let place = fixed-place (a .shape) Mm (c .before .before .before .first-body .result) (c .before .before .before .before .record-size .result) (c .before .before .before .first-body .ensures) (c .before .before .before .before .record-size .ensures ∙ ap recordSize (c .before .before .before .before .before .row-of .ensures)) in
+    let e : c .before .before .before .before .before .row-of .result .count ≡ rowOf (a .shape) Mm .count = ap (λ r. r .count) (c .before .before .before .before .before .row-of .ensures) in
     let l = c .before .before .loop in
-    let t : l .i < a .shape .blocks = omega (arith, e, c .before .loop-test .taken) in
-    let room = body-room (a .shape) Mm (l .i) _ t (c .before .before .before .before .before .before .before .before .before .pre .1) in
-    (omega (arith, l .inv .1, place (l .i), room), omega (arith, l .inv .2, l .inv .3 .size, t, c .before .before .before .before .before .before .before .before .before .pre .2))
+    let t : l .i < rowOf (a .shape) Mm .count = omega (arith, e, c .before .loop-test .taken) in
+    let room = body-room (a .shape) Mm (l .i) _ t (c .before .before .before .before .before .before .before .before .pre .1) in
+    (omega (arith, l .inv .1, place (l .i), room), omega (arith, l .inv .2, l .inv .3 .size, t, c .before .before .before .before .before .before .before .before .pre .2))
 
-add-at-2 : tie.Need-add-at-2 Inv-loop μ-loop
-add-at-2 c =
-    let a = c .before .before .before .before .before .before .before .before .before .before .before .before .args in
-    let h = ap (λ r. headLength (r .places)) (c .before .before .before .before .before .before .before .before .before .row-of .ensures) in
-    let p : c .before .before .before .before .before .before .before .start-of .result + c .before .before .before .before .before .before .head-length .result ≡ startOf (a .shape) (orderOf Mm) + headLength (rowOf (a .shape) Mm .places) = (λ i. c .before .before .before .before .before .before .before .start-of .ensures i + (c .before .before .before .before .before .before .head-length .ensures ∙ h) i) in
-    let z : c .before .before .before .before .before .before .before .before .record-size .result ≡ recordSize (rowOf (a .shape) Mm) = c .before .before .before .before .before .before .before .before .record-size .ensures ∙ ap recordSize (c .before .before .before .before .before .before .before .before .before .row-of .ensures) in
-    let at = c .before .before .before .before .before .before .before .start-of .result + c .before .before .before .before .before .before .head-length .result in
-    let place = body-place (a .shape) Mm at (c .before .before .before .before .before .before .before .before .record-size .result) p z in
-    let e : c .before .before .before .before .before .before .before .before .before .row-of .result .count ≡ rowOf (a .shape) Mm .count = ap (λ r. r .count) (c .before .before .before .before .before .before .before .before .before .row-of .ensures) in
+add-at : tie.Need-add-at Inv-loop μ-loop
+add-at c =
+    let a = c .before .before .before .before .before .before .before .before .before .before .before .args in
+    let place = fixed-place (a .shape) Mm (c .before .before .before .before .before .before .first-body .result) (c .before .before .before .before .before .before .before .record-size .result) (c .before .before .before .before .before .before .first-body .ensures) (c .before .before .before .before .before .before .before .record-size .ensures ∙ ap recordSize (c .before .before .before .before .before .before .before .before .row-of .ensures)) in
+    let e : c .before .before .before .before .before .before .before .before .row-of .result .count ≡ rowOf (a .shape) Mm .count = ap (λ r. r .count) (c .before .before .before .before .before .before .before .before .row-of .ensures) in
     let l = c .before .before .before .before .before .loop in
-    let t : l .i < a .shape .blocks = omega (arith, e, c .before .before .before .before .loop-test .taken) in
-    let room = body-room (a .shape) Mm (l .i) _ t (c .before .before .before .before .before .before .before .before .before .before .before .before .pre .1) in
-    omega (arith, l .inv .1, place (l .i), z, room)
+    let t : l .i < rowOf (a .shape) Mm .count = omega (arith, e, c .before .before .before .before .loop-test .taken) in
+    let room = body-room (a .shape) Mm (l .i) _ t (c .before .before .before .before .before .before .before .before .before .before .before .pre .1) in
+    omega (arith, l .inv .1, place (l .i), c .before .before .before .before .before .before .before .record-size .ensures ∙ ap recordSize (c .before .before .before .before .before .before .before .before .row-of .ensures), room)
 
 add-next : tie.Need-add-next Inv-loop μ-loop
 add-next c =
-    let a = c .before .before .before .before .before .before .before .before .before .before .before .before .args in
-    let h = ap (λ r. headLength (r .places)) (c .before .before .before .before .before .before .before .before .before .row-of .ensures) in
-    let p : c .before .before .before .before .before .before .before .start-of .result + c .before .before .before .before .before .before .head-length .result ≡ startOf (a .shape) (orderOf Mm) + headLength (rowOf (a .shape) Mm .places) = (λ i. c .before .before .before .before .before .before .before .start-of .ensures i + (c .before .before .before .before .before .before .head-length .ensures ∙ h) i) in
-    let z : c .before .before .before .before .before .before .before .before .record-size .result ≡ recordSize (rowOf (a .shape) Mm) = c .before .before .before .before .before .before .before .before .record-size .ensures ∙ ap recordSize (c .before .before .before .before .before .before .before .before .before .row-of .ensures) in
-    let at = c .before .before .before .before .before .before .before .start-of .result + c .before .before .before .before .before .before .head-length .result in
-    let place = body-place (a .shape) Mm at (c .before .before .before .before .before .before .before .before .record-size .result) p z in
-    let e : c .before .before .before .before .before .before .before .before .before .row-of .result .count ≡ rowOf (a .shape) Mm .count = ap (λ r. r .count) (c .before .before .before .before .before .before .before .before .before .row-of .ensures) in
+    let a = c .before .before .before .before .before .before .before .before .before .before .before .args in
+    let e : c .before .before .before .before .before .before .before .before .row-of .result .count ≡ rowOf (a .shape) Mm .count = ap (λ r. r .count) (c .before .before .before .before .before .before .before .before .row-of .ensures) in
     let l = c .before .before .before .before .before .loop in
-    let t : l .i < a .shape .blocks = omega (arith, e, c .before .before .before .before .loop-test .taken) in
-    let room = body-room (a .shape) Mm (l .i) _ t (c .before .before .before .before .before .before .before .before .before .before .before .before .pre .1) in
-    omega (arith, l .inv .2, t, c .before .before .before .before .before .before .before .before .before .before .before .before .pre .0)
+    let t : l .i < rowOf (a .shape) Mm .count = omega (arith, e, c .before .before .before .before .loop-test .taken) in
+    omega (arith, l .inv .2, t, c .before .before .before .before .before .before .before .before .before .before .before .pre .0)
 
 loop-again : tie.Need-loop-again Inv-loop μ-loop
 loop-again c =
-    let a = c .before .before .before .before .before .before .before .before .before .before .before .before .args in
+    let image = c .before .before .before .before .before .before .before .before .before .before .before .args .image .now in
     let l = c .before .before .before .before .before .loop in
-    let at = c .before .before .before .before .before .before .before .start-of .result + c .before .before .before .before .before .before .head-length .result in
-    let size = c .before .before .before .before .before .before .before .before .record-size .result in
-    let x = ap (λ p. take 64 (drop p (a .image .now))) (l .inv .1) in (
+    let at = c .before .before .before .before .before .before .first-body .result in
+    let size = c .before .before .before .before .before .before .before .record-size .result in
+    let x = ap (λ p. take 64 (drop p image)) (l .inv .1) in (
       omega (arith, c .before .before .before .before .loop-test .taken),
       omega (arith, l .inv .1, mul-suc size (l .i), ap (λ n. size * n) (add-one (l .i))),
       omega (arith, l .inv .2),
-      grown-join (l .i) (λ k. take 64 (drop (at + size * k) (a .image .now))) (l .inv .3) (grown-new x (c .before .before .copy-eights .ensures)),
+      grown-join (l .i) (λ k. take 64 (drop (at + size * k) image)) (l .inv .3) (grown-new x (c .before .before .copy-eights .ensures)),
     )
 
 returns : tie.Need-returns Inv-loop μ-loop
 returns c =
-    let a = c .before .before .before .before .before .before .before .before .args in
-    let h = ap (λ r. headLength (r .places)) (c .before .before .before .before .before .row-of .ensures) in
-    let p : c .before .before .before .start-of .result + c .before .before .head-length .result ≡ startOf (a .shape) (orderOf Mm) + headLength (rowOf (a .shape) Mm .places) = (λ i. c .before .before .before .start-of .ensures i + (c .before .before .head-length .ensures ∙ h) i) in
-    let z : c .before .before .before .before .record-size .result ≡ recordSize (rowOf (a .shape) Mm) = c .before .before .before .before .record-size .ensures ∙ ap recordSize (c .before .before .before .before .before .row-of .ensures) in
-    let at = c .before .before .before .start-of .result + c .before .before .head-length .result in
-    let place = body-place (a .shape) Mm at (c .before .before .before .before .record-size .result) p z in
-    let e : c .before .before .before .before .before .row-of .result .count ≡ rowOf (a .shape) Mm .count = ap (λ r. r .count) (c .before .before .before .before .before .row-of .ensures) in
+    let a = c .before .before .before .before .before .before .before .args in
+    let place = fixed-place (a .shape) Mm (c .before .before .first-body .result) (c .before .before .before .record-size .result) (c .before .before .first-body .ensures) (c .before .before .before .record-size .ensures ∙ ap recordSize (c .before .before .before .before .row-of .ensures)) in
+    let e : c .before .before .before .before .row-of .result .count ≡ rowOf (a .shape) Mm .count = ap (λ r. r .count) (c .before .before .before .before .row-of .ensures) in
     let l = c .before .loop in
-    let size = c .before .before .before .before .record-size .result in
-    let g = grown-end (l .i) (a .shape .blocks) (λ k. take 64 (drop (at + size * k) (a .image .now))) (l .inv .3) (omega (arith, e, l .inv .0)) (omega (arith, e, c .loop-test .left)) in
-    grown-whole (grown-new (memory-read (a .shape) (a .image .now) at size place) g) (memory-length (a .shape) (a .image .now) (c .before .before .before .before .before .before .before .before .pre .1) ∙ sym (c .before .before .before .before .before .before .before .before .pre .2))
+    let image = a .image .now in
+    let at = c .before .before .first-body .result in
+    let size = c .before .before .before .record-size .result in
+    let g = grown-end (l .i) (a .shape .blocks) (λ k. take 64 (drop (at + size * k) image)) (l .inv .3) (omega (arith, e, l .inv .0)) (omega (arith, e, c .loop-test .left)) in
+    grown-whole (grown-new (memory-read (a .shape) image at size place) g) (memory-length (a .shape) image (c .before .before .before .before .before .before .before .pre .1) ∙ sym (c .before .before .before .before .before .before .before .pre .2))
 
 pub take-memory-spec : {M : Type 1} → statement M
 take-memory-spec =
@@ -105,11 +83,9 @@ take-memory-spec =
     (λ c κs. search needs)
     (λ c κs. rw (c .row-of .ensures) (omega arith))
     (λ c κs. c .before .before .before .before .pre .0)
-    (λ c κs. search needs)
-    add-at
     (λ c. (omega arith, omega arith, omega arith, grown-start _ 0 _))
     copy-eights-requires
-    add-at-2
+    add-at
     add-next
     (λ c. omega (arith, c .before .before .before .before .loop-test .taken))
     (λ c. omega arith)

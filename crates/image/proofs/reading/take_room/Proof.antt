@@ -6,11 +6,11 @@ use native.Mathlib.Numerals.{add-one}
 use lib.ListN.{drop}
 use Rattle.image.specs.Bytes.{wordsOf}
 use Rattle.image.specs.Join.{joined, Grown}
-use Rattle.image.specs.Layout.{rowOf, orderOf, headLength, recordSize, startOf}
+use Rattle.image.specs.Layout.{rowOf, recordSize}
 use Rattle.image.proofs.Join.{fits-in, grown-start, grown-join, grown-end, grown-new, grown-same}
-use Rattle.image.proofs.RecordIn.{body-place, body-room}
+use Rattle.image.proofs.RecordIn.{fixed-place, body-room}
 use Rattle.image.proofs.Rooms.{room-read}
-use Rattle.image.proofs.Rows.{size-few, places-few, kind-room, whole-length}
+use Rattle.image.proofs.Rows.{size-few}
 use native.Mathlib.Omega.{arith}
 use borrow.Author.Needs.{needs}
 use Rattle.image.proofs.reading.take_room.Statement.{statement}
@@ -25,59 +25,40 @@ abbrev μ-loop : tie.MeasureT-loop
 record-size-requires : tie.Need-record-size-requires Inv-loop μ-loop
 record-size-requires c κs = rw (c .row-of .ensures) (omega (arith, size-few (c .before .before .before .args .shape) (c .before .before .before .args .kind)))
 
-add-at : tie.Need-add-at Inv-loop μ-loop
-add-at c =
-    let h = ap (λ r. headLength (r .places)) (c .before .before .before .row-of .ensures) in
-    omega (arith, c .before .start-of .ensures, c .head-length .ensures, h, kind-room (c .before .before .before .before .before .before .args .shape) (c .before .before .before .before .before .before .args .kind), whole-length (c .before .before .before .before .before .before .args .shape), places-few (rowOf (c .before .before .before .before .before .before .args .shape) (c .before .before .before .before .before .before .args .kind) .places), c .before .before .before .before .before .before .pre .0)
-
 take-words-requires : tie.Need-take-words-requires Inv-loop μ-loop
 take-words-requires c κs =
-    let a = c .before .before .before .before .before .before .before .before .before .args in
-    let h = ap (λ r. headLength (r .places)) (c .before .before .before .before .before .before .row-of .ensures) in
-    let p : c .before .before .before .before .start-of .result + c .before .before .before .head-length .result ≡ startOf (a .shape) (orderOf (a .kind)) + headLength (rowOf (a .shape) (a .kind) .places) = (λ i. c .before .before .before .before .start-of .ensures i + (c .before .before .before .head-length .ensures ∙ h) i) in
-    let z : c .before .before .before .before .before .record-size .result ≡ recordSize (rowOf (a .shape) (a .kind)) = c .before .before .before .before .before .record-size .ensures ∙ ap recordSize (c .before .before .before .before .before .before .row-of .ensures) in
-    let at = c .before .before .before .before .start-of .result + c .before .before .before .head-length .result in
-    let place = body-place (a .shape) (a .kind) at (c .before .before .before .before .before .record-size .result) p z in
-    let e : c .before .before .before .before .before .before .row-of .result .count ≡ rowOf (a .shape) (a .kind) .count = ap (λ r. r .count) (c .before .before .before .before .before .before .row-of .ensures) in
+    let a = c .before .before .before .before .before .before .before .before .args in
+    let place = fixed-place (a .shape) (a .kind) (c .before .before .before .first-body .result) (c .before .before .before .before .record-size .result) (c .before .before .before .first-body .ensures) (c .before .before .before .before .record-size .ensures ∙ ap recordSize (c .before .before .before .before .before .row-of .ensures)) in
+    let e : c .before .before .before .before .before .row-of .result .count ≡ rowOf (a .shape) (a .kind) .count = ap (λ r. r .count) (c .before .before .before .before .before .row-of .ensures) in
     let l = c .before .before .loop in
     let t : l .i < rowOf (a .shape) (a .kind) .count = omega (arith, e, c .before .loop-test .taken) in
-    let room = body-room (a .shape) (a .kind) (l .i) _ t (c .before .before .before .before .before .before .before .before .before .pre .1) in
-    (omega (arith, l .inv .1, place (l .i), room, c .before .before .before .before .before .before .before .before .before .pre .2), omega (arith, l .inv .2, l .inv .3 .size, fits-in (a .n) (l .i) (rowOf (a .shape) (a .kind) .count) t, c .before .before .before .before .before .before .before .before .before .pre .3))
+    let room = body-room (a .shape) (a .kind) (l .i) _ t (c .before .before .before .before .before .before .before .before .pre .1) in
+    (omega (arith, l .inv .1, place (l .i), room, c .before .before .before .before .before .before .before .before .pre .2), omega (arith, l .inv .2, l .inv .3 .size, fits-in (a .n) (l .i) (rowOf (a .shape) (a .kind) .count) t, c .before .before .before .before .before .before .before .before .pre .3))
 
-add-at-2 : tie.Need-add-at-2 Inv-loop μ-loop
-add-at-2 c =
-    let a = c .before .before .before .before .before .before .before .before .before .before .before .before .args in
-    let h = ap (λ r. headLength (r .places)) (c .before .before .before .before .before .before .before .before .before .row-of .ensures) in
-    let p : c .before .before .before .before .before .before .before .start-of .result + c .before .before .before .before .before .before .head-length .result ≡ startOf (a .shape) (orderOf (a .kind)) + headLength (rowOf (a .shape) (a .kind) .places) = (λ i. c .before .before .before .before .before .before .before .start-of .ensures i + (c .before .before .before .before .before .before .head-length .ensures ∙ h) i) in
-    let z : c .before .before .before .before .before .before .before .before .record-size .result ≡ recordSize (rowOf (a .shape) (a .kind)) = c .before .before .before .before .before .before .before .before .record-size .ensures ∙ ap recordSize (c .before .before .before .before .before .before .before .before .before .row-of .ensures) in
-    let at = c .before .before .before .before .before .before .before .start-of .result + c .before .before .before .before .before .before .head-length .result in
-    let place = body-place (a .shape) (a .kind) at (c .before .before .before .before .before .before .before .before .record-size .result) p z in
-    let e : c .before .before .before .before .before .before .before .before .before .row-of .result .count ≡ rowOf (a .shape) (a .kind) .count = ap (λ r. r .count) (c .before .before .before .before .before .before .before .before .before .row-of .ensures) in
+add-at : tie.Need-add-at Inv-loop μ-loop
+add-at c =
+    let a = c .before .before .before .before .before .before .before .before .before .before .before .args in
+    let place = fixed-place (a .shape) (a .kind) (c .before .before .before .before .before .before .first-body .result) (c .before .before .before .before .before .before .before .record-size .result) (c .before .before .before .before .before .before .first-body .ensures) (c .before .before .before .before .before .before .before .record-size .ensures ∙ ap recordSize (c .before .before .before .before .before .before .before .before .row-of .ensures)) in
+    let e : c .before .before .before .before .before .before .before .before .row-of .result .count ≡ rowOf (a .shape) (a .kind) .count = ap (λ r. r .count) (c .before .before .before .before .before .before .before .before .row-of .ensures) in
     let l = c .before .before .before .before .before .loop in
     let t : l .i < rowOf (a .shape) (a .kind) .count = omega (arith, e, c .before .before .before .before .loop-test .taken) in
-    let room = body-room (a .shape) (a .kind) (l .i) _ t (c .before .before .before .before .before .before .before .before .before .before .before .before .pre .1) in
-    omega (arith, l .inv .1, place (l .i), z, size-few (a .shape) (a .kind), room)
+    let room = body-room (a .shape) (a .kind) (l .i) _ t (c .before .before .before .before .before .before .before .before .before .before .before .pre .1) in
+    omega (arith, l .inv .1, place (l .i), c .before .before .before .before .before .before .before .record-size .ensures ∙ ap recordSize (c .before .before .before .before .before .before .before .before .row-of .ensures), size-few (a .shape) (a .kind), room)
 
 add-next : tie.Need-add-next Inv-loop μ-loop
 add-next c =
-    let a = c .before .before .before .before .before .before .before .before .before .before .before .before .args in
-    let h = ap (λ r. headLength (r .places)) (c .before .before .before .before .before .before .before .before .before .row-of .ensures) in
-    let p : c .before .before .before .before .before .before .before .start-of .result + c .before .before .before .before .before .before .head-length .result ≡ startOf (a .shape) (orderOf (a .kind)) + headLength (rowOf (a .shape) (a .kind) .places) = (λ i. c .before .before .before .before .before .before .before .start-of .ensures i + (c .before .before .before .before .before .before .head-length .ensures ∙ h) i) in
-    let z : c .before .before .before .before .before .before .before .before .record-size .result ≡ recordSize (rowOf (a .shape) (a .kind)) = c .before .before .before .before .before .before .before .before .record-size .ensures ∙ ap recordSize (c .before .before .before .before .before .before .before .before .before .row-of .ensures) in
-    let at = c .before .before .before .before .before .before .before .start-of .result + c .before .before .before .before .before .before .head-length .result in
-    let place = body-place (a .shape) (a .kind) at (c .before .before .before .before .before .before .before .before .record-size .result) p z in
-    let e : c .before .before .before .before .before .before .before .before .before .row-of .result .count ≡ rowOf (a .shape) (a .kind) .count = ap (λ r. r .count) (c .before .before .before .before .before .before .before .before .before .row-of .ensures) in
+    let a = c .before .before .before .before .before .before .before .before .before .before .before .args in
+    let e : c .before .before .before .before .before .before .before .before .row-of .result .count ≡ rowOf (a .shape) (a .kind) .count = ap (λ r. r .count) (c .before .before .before .before .before .before .before .before .row-of .ensures) in
     let l = c .before .before .before .before .before .loop in
     let t : l .i < rowOf (a .shape) (a .kind) .count = omega (arith, e, c .before .before .before .before .loop-test .taken) in
-    let room = body-room (a .shape) (a .kind) (l .i) _ t (c .before .before .before .before .before .before .before .before .before .before .before .before .pre .1) in
-    omega (arith, l .inv .2, l .inv .3 .size, fits-in (a .n) (l .i) (rowOf (a .shape) (a .kind) .count) t, c .before .before .before .before .before .before .before .before .before .before .before .before .pre .3)
+    omega (arith, l .inv .2, l .inv .3 .size, fits-in (a .n) (l .i) (rowOf (a .shape) (a .kind) .count) t, c .before .before .before .before .before .before .before .before .before .before .before .pre .3)
 
 loop-again : tie.Need-loop-again Inv-loop μ-loop
 loop-again c =
-    let a = c .before .before .before .before .before .before .before .before .before .before .before .before .args in
+    let a = c .before .before .before .before .before .before .before .before .before .before .before .args in
     let l = c .before .before .before .before .before .loop in
-    let at = c .before .before .before .before .before .before .before .start-of .result + c .before .before .before .before .before .before .head-length .result in
-    let size = c .before .before .before .before .before .before .before .before .record-size .result in
+    let at = c .before .before .before .before .before .before .first-body .result in
+    let size = c .before .before .before .before .before .before .before .record-size .result in
     let x = ap (λ p. wordsOf (a .n) (drop p (a .image .now))) (l .inv .1) in (
       omega (arith, c .before .before .before .before .loop-test .taken),
       omega (arith, l .inv .1, mul-suc size (l .i), ap (λ n. size * n) (add-one (l .i))),
@@ -87,18 +68,15 @@ loop-again c =
 
 returns : tie.Need-returns Inv-loop μ-loop
 returns c =
-    let a = c .before .before .before .before .before .before .before .before .args in
-    let h = ap (λ r. headLength (r .places)) (c .before .before .before .before .before .row-of .ensures) in
-    let p : c .before .before .before .start-of .result + c .before .before .head-length .result ≡ startOf (a .shape) (orderOf (a .kind)) + headLength (rowOf (a .shape) (a .kind) .places) = (λ i. c .before .before .before .start-of .ensures i + (c .before .before .head-length .ensures ∙ h) i) in
-    let z : c .before .before .before .before .record-size .result ≡ recordSize (rowOf (a .shape) (a .kind)) = c .before .before .before .before .record-size .ensures ∙ ap recordSize (c .before .before .before .before .before .row-of .ensures) in
-    let at = c .before .before .before .start-of .result + c .before .before .head-length .result in
-    let place = body-place (a .shape) (a .kind) at (c .before .before .before .before .record-size .result) p z in
-    let e : c .before .before .before .before .before .row-of .result .count ≡ rowOf (a .shape) (a .kind) .count = ap (λ r. r .count) (c .before .before .before .before .before .row-of .ensures) in
+    let a = c .before .before .before .before .before .before .before .args in
+    let place = fixed-place (a .shape) (a .kind) (c .before .before .first-body .result) (c .before .before .before .record-size .result) (c .before .before .first-body .ensures) (c .before .before .before .record-size .ensures ∙ ap recordSize (c .before .before .before .before .row-of .ensures)) in
+    let e : c .before .before .before .before .row-of .result .count ≡ rowOf (a .shape) (a .kind) .count = ap (λ r. r .count) (c .before .before .before .before .row-of .ensures) in
     let l = c .before .loop in
-    let size = c .before .before .before .before .record-size .result in
+    let at = c .before .before .first-body .result in
+    let size = c .before .before .before .record-size .result in
     let g = grown-end (l .i) (rowOf (a .shape) (a .kind) .count) (λ k. wordsOf (a .n) (drop (at + size * k) (a .image .now))) (l .inv .3) (omega (arith, e, l .inv .0)) (omega (arith, e, c .loop-test .left)) in
     let f : l .i ≡ rowOf (a .shape) (a .kind) .count = omega (arith, e, l .inv .0, c .loop-test .left) in
-    grown-same _ (l .inv .2 ∙ ap (λ i. a .from + a .n * i) f) (grown-new (room-read (a .shape) (a .image .now) (a .kind) (a .n) at size (c .before .before .before .before .before .before .before .before .pre .2) place) g)
+    grown-same _ (l .inv .2 ∙ ap (λ i. a .from + a .n * i) f) (grown-new (room-read (a .shape) (a .image .now) (a .kind) (a .n) at size (c .before .before .before .before .before .before .before .pre .2) place) g)
 
 pub take-room-spec : {M : Type 1} → statement M
 take-room-spec =
@@ -109,11 +87,9 @@ take-room-spec =
     (λ c κs. search needs)
     record-size-requires
     (λ c κs. c .before .before .before .before .pre .0)
-    (λ c κs. search needs)
-    add-at
     (λ c. (omega arith, omega arith, omega arith, grown-start _ _ _))
     take-words-requires
-    add-at-2
+    add-at
     add-next
     (λ c. omega (arith, c .before .before .before .before .loop-test .taken))
     (λ c. omega arith)
