@@ -1,0 +1,87 @@
+/* Korvammel for a board: the old pavement-heating core, run by proved code.
+ *
+ * Every function takes numbers and lent arrays, uses no heap, always ends, and answers 0 or a number of this table. Where it
+ * answers a number of the table, every lent array holds what it held before, except where the function says otherwise.
+ *
+ *    1  the program has 0 or more than 16,384 words
+ *    2  the register room is not 8,704 words
+ *    3  the memory's length is not allowed: a multiple of 64, from 64 to 65,536
+ *    4  the machine record is not well formed, a number in it is out of range, or a field not carried is not 0
+ *    5  the start mask is 0 or above 255
+ *    6  the instruction has no word
+ *    7  the word is undefined
+ *    8  the word is not fitted
+ *    9  the image's length is not 36,948 + 68 x (memory length / 64)
+ *   10  a record of the image (or of a machine record) has a wrong mark, or a thread, register or block number out of place
+ *
+ * They are checked in the order 1, 2, 3, 5, 9, 10, 4, and the first that applies is given.
+ */
+#ifndef KORVAMMEL_H
+#define KORVAMMEL_H
+
+#include <stddef.h>
+#include <stdint.h>
+
+#ifdef __cplusplus
+extern "C" {
+#endif
+
+/* Words of the register room: thread t (0..7), scalar i at 64t+i; vector i, lane j at 512+1024t+16i+j. */
+#define KORVAMMEL_REGISTERS 8704
+
+/* Bytes of a machine record: as the image begins, "HD", last, enabled, and then for each of the eight threads "TH", thread, status,
+ * reason, id, count. Status: 0 idle, 1 running, 2 ended, 3 trapped (with a reason), 4 waiting (with a barrier id and a count). */
+#define KORVAMMEL_RECORD 60
+
+/* Bytes of the image of a machine with so many bytes of memory. */
+#define KORVAMMEL_IMAGE(memory_length) (36948 + 68 * ((memory_length) / 64))
+
+/* An instruction is six numbers: its format (0 R, 1 I, 2 MOVEI, 3 J, 4 C, 5 M), its opcode in that format, its vector flags, and
+ *   R      d, a, b              flags of d, a and b, d highest
+ *   I      d, a, immediate      flags of d and a, d highest
+ *   MOVEI  d, immediate, 0      the flag of d
+ *   J      register, offset, 0  0
+ *   C      first, second, 0     0
+ *   M      register, base, offset  0
+ * A signed number is held modulo 2^32: -1 is 0xFFFFFFFF. */
+#define KORVAMMEL_INSTRUCTION 6
+
+/* Reads a word into an instruction. Answers 0, 7 or 8. */
+uint32_t korvammel_read_word(uint32_t word, uint32_t instruction[KORVAMMEL_INSTRUCTION]);
+
+/* Writes an instruction into a word. Answers 0 or 6. */
+uint32_t korvammel_write_word(const uint32_t instruction[KORVAMMEL_INSTRUCTION], uint32_t word[1]);
+
+/* Puts an instruction's name, at most 8 bytes and zeros behind it, and answers its length; 0 where no line has its opcode. */
+size_t korvammel_name(const uint32_t instruction[KORVAMMEL_INSTRUCTION], uint8_t name[8]);
+
+/* Starts the threads of a mask: clears the registers, sets every s59 to 0xFFFF, and writes the record. Answers 0, 2 or 5; where it
+ * answers 2 or 5 it writes a record with every number 0, and leaves the registers. */
+uint32_t korvammel_start(uint32_t mask, uint32_t *registers, size_t registers_length, uint8_t record[KORVAMMEL_RECORD]);
+
+/* How a run ended. */
+#define KORVAMMEL_REFUSED 0 /* it did not begin */
+#define KORVAMMEL_STOPPED 1 /* no thread is running, and none waits */
+#define KORVAMMEL_STUCK 2   /* no thread is running, and one waits at a barrier */
+#define KORVAMMEL_SPENT 3   /* the budget of issues is used up */
+
+/* Runs a program until it is stopped, stuck or spent. Leaves the registers, the memory and the record as the issues made them, and
+ * puts how it ended and the number of issues made into `result`. Answers 0, 1, 2, 3, 10 or 4; where it answers a number of the
+ * table, `result` becomes 0, 0. */
+uint32_t korvammel_run(const uint32_t *program, size_t program_length, uint32_t *registers, size_t registers_length, uint8_t *memory,
+                       size_t memory_length, uint8_t record[KORVAMMEL_RECORD], uint32_t budget, uint32_t result[2]);
+
+/* Writes a machine's image. Answers 0, 2, 3, 9, 10 or 4. */
+uint32_t korvammel_image_write(const uint32_t *registers, size_t registers_length, const uint8_t *memory, size_t memory_length,
+                               const uint8_t record[KORVAMMEL_RECORD], uint8_t *image, size_t image_length);
+
+/* Reads an image into registers, memory and record. Answers 0, 2, 3, 9, 10 or 4; where it answers a number it writes a record with
+ * every number 0, and leaves registers and memory. */
+uint32_t korvammel_image_read(const uint8_t *image, size_t image_length, uint32_t *registers, size_t registers_length, uint8_t *memory,
+                              size_t memory_length, uint8_t record[KORVAMMEL_RECORD]);
+
+#ifdef __cplusplus
+}
+#endif
+
+#endif

@@ -1,0 +1,9 @@
+//! Links the C library, from the folder that KORVAMMEL_LIBRARY names.
+
+fn main() {
+    println!("cargo:rerun-if-env-changed=KORVAMMEL_LIBRARY");
+    let folder = std::env::var("KORVAMMEL_LIBRARY").expect("KORVAMMEL_LIBRARY names the folder of libcapi.a");
+    println!("cargo:rerun-if-changed={folder}/libcapi.a");
+    println!("cargo:rustc-link-search=native={folder}");
+    println!("cargo:rustc-link-lib=static=capi");
+}

@@ -1,0 +1,132 @@
+//! The C library, as include/korvammel.h declares it.
+
+use reference::machine::{Record, Status, ZERO};
+use reference::run::Ending;
+
+extern "C" {
+    fn korvammel_read_word(word: u32, instruction: *mut u32) -> u32;
+    fn korvammel_write_word(instruction: *const u32, word: *mut u32) -> u32;
+    fn korvammel_name(instruction: *const u32, name: *mut u8) -> usize;
+    fn korvammel_start(mask: u32, registers: *mut u32, registers_length: usize, record: *mut u8) -> u32;
+    fn korvammel_run(
+        program: *const u32,
+        program_length: usize,
+        registers: *mut u32,
+        registers_length: usize,
+        memory: *mut u8,
+        memory_length: usize,
+        record: *mut u8,
+        budget: u32,
+        result: *mut u32,
+    ) -> u32;
+    fn korvammel_image_write(
+        registers: *const u32,
+        registers_length: usize,
+        memory: *const u8,
+        memory_length: usize,
+        record: *const u8,
+        image: *mut u8,
+        image_length: usize,
+    ) -> u32;
+    fn korvammel_image_read(
+        image: *const u8,
+        image_length: usize,
+        registers: *mut u32,
+        registers_length: usize,
+        memory: *mut u8,
+        memory_length: usize,
+        record: *mut u8,
+    ) -> u32;
+}
+
+pub fn read_word(word: u32, instruction: &mut [u32; 6]) -> u32 {
+    unsafe { korvammel_read_word(word, instruction.as_mut_ptr()) }
+}
+
+pub fn write_word(instruction: &[u32; 6], word: &mut u32) -> u32 {
+    unsafe { korvammel_write_word(instruction.as_ptr(), word) }
+}
+
+pub fn name(instruction: &[u32; 6]) -> Vec<u8> {
+    let mut bytes = [1; 8];
+    let length = unsafe { korvammel_name(instruction.as_ptr(), bytes.as_mut_ptr()) };
+    assert!(bytes[length..].iter().all(|b| *b == 0));
+    bytes[..length].to_vec()
+}
+
+pub fn start(mask: u32, registers: &mut [u32], record: &mut [u8; 60]) -> u32 {
+    unsafe { korvammel_start(mask, registers.as_mut_ptr(), registers.len(), record.as_mut_ptr()) }
+}
+
+pub fn run(program: &[u32], registers: &mut [u32], memory: &mut [u8], record: &mut [u8; 60], budget: u32, result: &mut [u32; 2]) -> u32 {
+    unsafe {
+        korvammel_run(
+            program.as_ptr(),
+            program.len(),
+            registers.as_mut_ptr(),
+            registers.len(),
+            memory.as_mut_ptr(),
+            memory.len(),
+            record.as_mut_ptr(),
+            budget,
+            result.as_mut_ptr(),
+        )
+    }
+}
+
+pub fn image_write(registers: &[u32], memory: &[u8], record: &[u8; 60], image: &mut [u8]) -> u32 {
+    unsafe {
+        korvammel_image_write(
+            registers.as_ptr(),
+            registers.len(),
+            memory.as_ptr(),
+            memory.len(),
+            record.as_ptr(),
+            image.as_mut_ptr(),
+            image.len(),
+        )
+    }
+}
+
+pub fn image_read(image: &[u8], registers: &mut [u32], memory: &mut [u8], record: &mut [u8; 60]) -> u32 {
+    unsafe {
+        korvammel_image_read(
+            image.as_ptr(),
+            image.len(),
+            registers.as_mut_ptr(),
+            registers.len(),
+            memory.as_mut_ptr(),
+            memory.len(),
+            record.as_mut_ptr(),
+        )
+    }
+}
+
+/// A record's bytes, as the image begins.
+pub fn record_bytes(record: &Record) -> [u8; 60] {
+    reference::image::record_bytes(record).try_into().expect("60 bytes")
+}
+
+pub fn zero_bytes() -> [u8; 60] {
+    record_bytes(&ZERO)
+}
+
+/// The number of an ending, as the header has it.
+pub fn ending_number(ending: Ending) -> u32 {
+    match ending {
+        Ending::Stopped => 1,
+        Ending::Stuck => 2,
+        Ending::Spent => 3,
+    }
+}
+
+/// A record that need not be well formed, from numbers that its type can hold.
+pub fn any_status(kind: u64, x: u8, y: u8) -> Status {
+    match kind {
+        0 => Status::Idle,
+        1 => Status::Ended,
+        2 => Status::Trapped(x),
+        3 => Status::Waiting { id: x, count: y },
+        _ => Status::Running,
+    }
+}

@@ -1,0 +1,151 @@
+//! Random programs, by fixed seeds: biased to words that are read, to registers that matter and to addresses near the ends.
+
+use reference::word::{write, Instruction};
+
+/// A small generator (xorshift64*): the same numbers for the same seed on every machine.
+pub struct Random(u64);
+
+impl Random {
+    pub fn new(seed: u64) -> Random {
+        let mut random = Random(seed.wrapping_mul(0x9E37_79B9_7F4A_7C15) | 1);
+        for _ in 0..4 {
+            random.word();
+        }
+        random
+    }
+
+    pub fn word(&mut self) -> u64 {
+        self.0 ^= self.0 << 13;
+        self.0 ^= self.0 >> 7;
+        self.0 ^= self.0 << 17;
+        self.0.wrapping_mul(0x2545_F491_4F6C_DD1D)
+    }
+
+    pub fn below(&mut self, n: u64) -> u64 {
+        (self.word() >> 11) % n
+    }
+
+    pub fn one_in(&mut self, n: u64) -> bool {
+        self.below(n) == 0
+    }
+
+    pub fn of<T: Copy>(&mut self, list: &[T]) -> T {
+        list[self.below(list.len() as u64) as usize]
+    }
+
+    /// A register: mostly one of the first six, at times the mask, the link or the program counter.
+    fn register(&mut self) -> u8 {
+        match self.below(10) {
+            0 => 59,
+            1 => 62,
+            2 => 63,
+            3 => self.below(64) as u8,
+            _ => self.below(6) as u8,
+        }
+    }
+
+    fn r(&mut self) -> Instruction {
+        let opcode = self.below(28) as u8 + 1;
+        let opcode = match opcode {
+            26 => 32,
+            27 => 43,
+            28 => 44,
+            _ => opcode,
+        };
+        let is_unary = matches!(opcode, 12 | 13 | 32 | 43 | 44);
+        let flags = match opcode {
+            1..=11 => self.of(&[0b000, 0b111, 0b110, 0b101]),
+            14..=23 => self.of(&[0b000, 0b011, 0b010, 0b001]),
+            24 => 0b111,
+            25 => 0b010,
+            32 => self.of(&[0b000, 0b110, 0b100]),
+            _ => self.of(&[0b000, 0b110]),
+        };
+        let (d, a) = (self.register(), self.register());
+        let b = if is_unary { 0 } else { self.register() };
+        Instruction::R { opcode, flags, d, a, b }
+    }
+
+    fn i(&mut self) -> Instruction {
+        let opcode = self.of(&[1, 2, 3, 4, 5, 6, 7, 8, 9, 10, 11, 14, 15, 16, 17, 18, 19, 20, 21, 22, 23, 25]);
+        let flags = match opcode {
+            1..=11 => self.of(&[0b00, 0b11]),
+            25 => 0b01,
+            _ => self.of(&[0b00, 0b01]),
+        };
+        Instruction::I { opcode, flags, d: self.register(), a: self.register(), immediate: self.below(512) as i32 - 256 }
+    }
+
+    fn movei(&mut self) -> Instruction {
+        let most = self.of(&[16, 65536]);
+        Instruction::Movei {
+            opcode: self.below(3) as u8,
+            flag: self.below(2) as u8,
+            d: self.register(),
+            immediate: self.below(most) as u32,
+        }
+    }
+
+    /// A jump from word `at`, mostly to a word of the program.
+    fn j(&mut self, words: u64, at: u64) -> Instruction {
+        let opcode = self.of(&[0, 1, 2, 5, 6, 5, 6]);
+        let target = if self.one_in(12) { self.below(4 * words + 8) as i32 - 4 } else { 4 * self.below(words) as i32 };
+        let register = if opcode >= 5 { self.register() } else { 0 };
+        let offset = if opcode == 2 { 0 } else { target - 4 * at as i32 };
+        Instruction::J { opcode, register, offset }
+    }
+
+    fn c(&mut self) -> Instruction {
+        match self.below(9) {
+            0 => Instruction::C { opcode: 2, first: 0, second: 0 },
+            n => Instruction::C { opcode: (n % 2) as u8, first: self.register(), second: self.register() },
+        }
+    }
+
+    fn m(&mut self) -> Instruction {
+        let offset = match self.below(3) {
+            0 => 0,
+            1 => 4 * (self.below(128) as i32 - 64),
+            _ => self.below(512) as i32 - 256,
+        };
+        let opcode = self.of(&[0, 1, 2, 4, 5, 8, 32, 33, 34, 40]);
+        Instruction::M { opcode, register: self.register(), base: self.register(), offset }
+    }
+
+    /// The word at place `at` of a program of so many words: nearly always one that is read.
+    fn instruction_word(&mut self, words: u64, at: u64) -> u32 {
+        if self.one_in(200) {
+            return self.word() as u32;
+        }
+        loop {
+            let instruction = match self.below(20) {
+                0..=6 => self.r(),
+                7..=9 => self.i(),
+                10..=11 => self.movei(),
+                12..=14 => self.j(words, at),
+                15..=16 => self.c(),
+                _ => self.m(),
+            };
+            if let Some(word) = write(instruction) {
+                return word;
+            }
+        }
+    }
+
+    pub fn program(&mut self) -> Vec<u32> {
+        let words = if self.one_in(50) { 1 + self.below(16384) } else { 1 + self.below(40) };
+        (0..words).map(|at| self.instruction_word(words, at)).collect()
+    }
+
+    /// A number such as programs use: small, aligned, an address near the memory's end, or anything.
+    pub fn value(&mut self, memory: usize) -> u32 {
+        match self.below(6) {
+            0 => self.below(10) as u32,
+            1 => 4 * self.below(64) as u32,
+            2 => 64 * self.below(8) as u32,
+            3 => self.below(memory as u64 + 16) as u32,
+            4 => (memory as u32).wrapping_sub(self.below(80) as u32),
+            _ => self.word() as u32,
+        }
+    }
+}
