@@ -1,4 +1,5 @@
 // One issue of a thread.
+ghost use mathlib.Core.Bool.{false};
 ghost use mathlib.Core.Path.{_≡_};
 ghost use Prim.Native.Nat.{_≤_, _<_};
 ghost use lib.ListN.{length};
@@ -33,6 +34,12 @@ fn meet(registers: &mut [u32], machine: Machine, t: usize, pc: u32, id: u32, sec
     met.machine
 }
 
+// The record after an issue, and whether a status in it may have changed.
+pub struct Issued {
+    pub machine: Machine,
+    pub changed: bool,
+}
+
 // The issue of a thread that is "last" already.
 fn perform(
     program: &[u32],
@@ -40,21 +47,36 @@ fn perform(
     memory: &mut [u8],
     machine: Machine,
     t: usize,
-) -> Machine
+) -> Issued
     requires { ⌜ InRoom (now registers) t × (length (now program) ≤ 16384) ⌝ }
-    ensures { λ r. ⌜ state r (now (registers .exit)) (now (memory .exit)) ≡ perform (now (program .entry)) (state machine (now (registers .entry)) (now (memory .entry))) t ⌝ }
+    ensures { λ r. ⌜ (state (r .machine) (now (registers .exit)) (now (memory .exit)) ≡ perform (now (program .entry)) (state machine (now (registers .entry)) (now (memory .entry))) t) × (r .changed ≡ false → r .machine ≡ machine) ⌝ }
 {
     let words = program.len();
     let pc = registers::scalar(registers, t, registers::PROGRAM_COUNTER);
     if !jump::in_program(words, pc) {
-        return machine.trap(t, 4);
+        return Issued {
+            machine: machine.trap(t, 4),
+            changed: true,
+        };
     }
     let w = program[(pc / 4) as usize];
     match execute::word(words, machine.enabled, registers, memory, t, pc, w) {
-        Effect::Stays => machine,
-        Effect::Traps(reason) => machine.trap(t, reason),
-        Effect::Ends => machine.end(t),
-        Effect::Meets(id, second) => meet(registers, machine, t, pc, id, second),
+        Effect::Stays => Issued {
+            machine,
+            changed: false,
+        },
+        Effect::Traps(reason) => Issued {
+            machine: machine.trap(t, reason),
+            changed: true,
+        },
+        Effect::Ends => Issued {
+            machine: machine.end(t),
+            changed: true,
+        },
+        Effect::Meets(id, second) => Issued {
+            machine: meet(registers, machine, t, pc, id, second),
+            changed: true,
+        },
     }
 }
 
@@ -65,11 +87,14 @@ pub fn issue(
     memory: &mut [u8],
     machine: Machine,
     thread: usize,
-) -> Machine
-    ensures { λ r. ⌜ state r (now (registers .exit)) (now (memory .exit)) ≡ issue (now (program .entry)) (state machine (now (registers .entry)) (now (memory .entry))) thread ⌝ }
+) -> Issued
+    ensures { λ r. ⌜ (state (r .machine) (now (registers .exit)) (now (memory .exit)) ≡ issue (now (program .entry)) (state machine (now (registers .entry)) (now (memory .entry))) thread) × (r .changed ≡ false → r .machine ≡ machine) ⌝ }
 {
     if fits(program.len(), registers.len(), thread) {
         return perform(program, registers, memory, machine, thread);
     }
-    machine
+    Issued {
+        machine,
+        changed: false,
+    }
 }

@@ -10,4 +10,5 @@ mod operand;
 mod operation;
 mod registers;
 
+pub use issuing::Issued;
 pub use issuing::issue;

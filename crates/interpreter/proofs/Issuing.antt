@@ -1,6 +1,6 @@
 -- Laws of a run's issues, one at a time.
 use Prim.Native.Nat.{ℕ, zero, suc, _+_, _-_, _<_, _≤_}
-use mathlib.Core.Bool.{true}
+use mathlib.Core.Bool.{Bool, true, false, cond}
 use mathlib.Core.List.{List, [], _∷_}
 use mathlib.Core.Path.{_≡_, refl, ap, _∙_}
 use native.Mathlib.Omega.{arith}
@@ -13,9 +13,10 @@ use Rattle.machine.proofs.Claims.{chooses, issues as machine-issues}
 use Rattle.machine.specs.Claims.{Sound}
 use Rattle.machine.specs.Scheduler.{choice, withLast}
 use Rattle.machine.specs.WellFormed.{wellFormed}
-use Rattle.interpreter.specs.Answer.{Ending, spent}
+use Rattle.interpreter.specs.Answer.{spent}
 use Rattle.interpreter.specs.Choosing.{issued, issues, reached, idleEnding, endingAt}
 use Rattle.interpreter.specs.Run.{accepted}
+use Rattle.interpreter.specs.Stretch.{Carried, Over}
 use Rattle.interpreter.specs.Types.{Machine, Chosen, NoneRunning}
 
 -- the thread chosen is one of the eight
@@ -71,11 +72,6 @@ module _ (p : List ℕ) (s : State) where
     unfolding endingAt
     ending-some = rw h
 
--- a run from `first` with the budget b has come to s, with so many issues made
-pub record Carried (p : List ℕ) (b : ℕ) (first : State) (made : ℕ) (s : State) : Type 0 where
-  pub state : reached p b first ≡ reached p (b - made) s
-  pub count : length (issues p b first) ≡ made + length (issues p (b - made) s)
-
 pub carried-start : (p : List ℕ) (b : ℕ) (s : State) → Carried p b s 0 s
 carried-start p b s =
     let e : b - 0 ≡ b = omega arith in
@@ -90,22 +86,32 @@ module _ (p : List ℕ) (b : ℕ) (first : State) (made : ℕ) (s : State) (k : 
       let g : length (issues p (b - made) s) ≡ suc (length (issues p (b - (made + 1)) (issued p s t))) = rw e (ap length (issues-step p s t d h (b - (made + 1)))) in
       record { state = k .state ∙ f; count = omega (arith, k .count, g) }
 
-  -- what the run answers, where it ends in s
-  ends : (e : Ending) → endingAt s ≡ e → reached p (b - made) s ≡ s → issues p (b - made) s ≡ []
-      → record { answer = given e; issues = made; left = s } ≡ accepted p b first
-  unfolding accepted
-  ends e a r i =
-      let f : reached p b first ≡ s = k .state ∙ r in
-      let g : length (issues p b first) ≡ made = omega (arith, k .count, ap length i) in
-      rw (f, g, a)
+  -- the same of the call that performs it, on the record m with which the thread chosen is issued
+  pub carried-issue : (t d : ℕ) (m : Machine) (after : State) → length p ≤ 16384 → length (s .registers) ≡ 8704 → choice (s .machine) ≡ Chosen t d
+      → m ≡ withLast (s .machine) t → made < b → after ≡ issue p (state m (s .registers) (s .memory)) t → Carried p b first (made + 1) after
+  carried-issue t d m after words room h e l i = rw (i ∙ issue-performed p s t d m words room h e) (carried-step t d h l)
 
-  -- no thread is running
-  pub ends-idle : choice (s .machine) ≡ NoneRunning → record { answer = given (idleEnding (s .machine)); issues = made; left = s } ≡ accepted p b first
-  ends-idle h = ends (idleEnding (s .machine)) (ending-none p s h) (reached-none p s h (b - made)) (issues-none p s h (b - made))
+  -- and more of them, from there with what is left of the budget
+  pub carried-on : (more : ℕ) (t : State) → Carried p (b - made) s more t → Carried p b first (made + more) t
+  carried-on more t j =
+      let e : b - made - more ≡ b - (made + more) = omega arith in
+      record { state = k .state ∙ j .state ∙ ap (λ n. reached p n t) e; count = rw (← e) (omega (arith, k .count, j .count)) }
 
-  -- a thread is running, and the issues made equal the budget
-  pub ends-spent : (t d : ℕ) → choice (s .machine) ≡ Chosen t d → made ≡ b → record { answer = given spent; issues = made; left = s } ≡ accepted p b first
-  unfolding reached issues
-  ends-spent t d h e =
-      let z : b - made ≡ 0 = omega arith in
-      ends spent (ending-some p s t d h) (rw z) (rw z)
+-- what the run answers, where it ends after these
+pub ends : (p : List ℕ) (b : ℕ) (first : State) (made : ℕ) (s : State) → Carried p b first made s → (more : ℕ) (t : State) → Carried p (b - made) s more t
+    → (running : Bool) → Over p (b - made - more) t running
+    → record { answer = given (cond running spent (idleEnding (t .machine))); issues = made + more; left = t } ≡ accepted p b first
+unfolding accepted
+ends p b first made s k more t j running o =
+    let f : reached p b first ≡ t = k .state ∙ j .state ∙ o .stays in
+    let g : length (issues p b first) ≡ made + more = omega (arith, k .count, j .count, ap length (o .none)) in
+    rw (f, g, o .ending)
+
+-- no thread is running
+pub over-idle : (p : List ℕ) (left : ℕ) (s : State) → choice (s .machine) ≡ NoneRunning → Over p left s false
+over-idle p left s h = record { stays = reached-none p s h left; none = issues-none p s h left; ending = ending-none p s h }
+
+-- a thread is running, and nothing is left of the budget
+pub over-spent : (p : List ℕ) (left : ℕ) (s : State) (t d : ℕ) → choice (s .machine) ≡ Chosen t d → left ≡ 0 → Over p left s true
+unfolding reached issues
+over-spent p left s t d h e = record { stays = rw e; none = rw e; ending = ending-some p s t d h }

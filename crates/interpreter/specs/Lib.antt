@@ -5,6 +5,7 @@ pub mod Refusal
 pub mod Start
 pub mod Choosing
 pub mod Run
+pub mod Stretch
 pub mod Demand
 pub mod Claims
 pub mod Figures

@@ -10,6 +10,7 @@ ghost use Rattle.interpreter.specs.Answer.{stopped, stuck, spent, answer
 ghost use Rattle.interpreter.specs.Choosing.{idleEnding};
 ghost use Rattle.interpreter.specs.Refusal.{runNumber};
 ghost use Rattle.interpreter.specs.Run.{outcome, accepted, run};
+ghost use Rattle.interpreter.specs.Stretch.{Stretched};
 use crate::outcome::Run;
 use crate::outcome::RunAnswer;
 use answer::Verdict;
@@ -67,6 +68,68 @@ fn ended(machine: Machine, running: bool, made: u32) -> Run
     }
 }
 
+// Issues in a row: the record that they reach, how many were made, whether the last of them changed a status, and, where it did not
+// and nothing more is issued, whether a thread is running.
+pub struct Stretch {
+    pub machine: Machine,
+    pub made: u32,
+    pub changed: bool,
+    pub running: bool,
+}
+
+// Issues up to the first that changes a status. Until then nothing of the record changes but "last", so that the compiler finds the
+// running threads once and not for every issue.
+fn make_stretch(
+    program: &[u32],
+    registers: &mut [u32],
+    memory: &mut [u8],
+    mut machine: Machine,
+    budget: u32,
+) -> Stretch
+    requires { ⌜ (length (now program) ≤ 16384) × (length (now registers) ≡ 8704) ⌝ }
+    ensures { λ r. ⌜ Stretched (now (program .entry)) budget (state machine (now (registers .entry)) (now (memory .entry))) r (state (r .machine) (now (registers .exit)) (now (memory .exit))) ⌝ }
+{
+    let mut made: u32 = 0;
+    loop {
+        let turn = machine.choose();
+        let choice = turn.choice;
+        let next = turn.machine;
+        match choice {
+            Choice::NoneRunning => {
+                return Stretch {
+                    machine,
+                    made,
+                    changed: false,
+                    running: false,
+                };
+            }
+            Choice::Chosen { thread, .. } => {
+                if made == budget {
+                    return Stretch {
+                        machine,
+                        made,
+                        changed: false,
+                        running: true,
+                    };
+                }
+                let issued = execution::issue(program, registers, memory, next, thread);
+                let after = issued.machine;
+                let changed = issued.changed;
+                made += 1;
+                if changed {
+                    return Stretch {
+                        machine: after,
+                        made,
+                        changed,
+                        running: true,
+                    };
+                }
+                machine = next;
+            }
+        }
+    }
+}
+
 // The issues of a run that is not refused.
 fn make_issues(
     program: &[u32],
@@ -80,20 +143,12 @@ fn make_issues(
 {
     let mut made: u32 = 0;
     loop {
-        let turn = machine.choose();
-        let choice = turn.choice;
-        let next = turn.machine;
-        match choice {
-            Choice::NoneRunning => {
-                return ended(machine, false, made);
-            }
-            Choice::Chosen { thread, .. } => {
-                if made == budget {
-                    return ended(machine, true, made);
-                }
-                machine = execution::issue(program, registers, memory, next, thread);
-                made += 1;
-            }
+        let stretch = make_stretch(program, registers, memory, machine, budget - made);
+        let changed = stretch.changed;
+        machine = stretch.machine;
+        made += stretch.made;
+        if !changed {
+            return ended(machine, stretch.running, made);
         }
     }
 }

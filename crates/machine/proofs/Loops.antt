@@ -1,10 +1,14 @@
 -- Laws of the loops over the eight threads: one that searches goes by `from`, one that changes every entry by `restated`.
 use Prim.Native.Nat.{ℕ, zero, suc, _+_, _-_, _<_, _≤_}
+use mathlib.Core.Bool.{Bool, true, false, cond}
 use mathlib.Core.Path.{_≡_, refl, sym, ap, _∙_}
 use mathlib.Core.List.{List, [], _∷_, map}
 use native.Mathlib.Numerals.{add-one}
 use native.Mathlib.Omega.{arith}
+use borrow.Author.Tests.{eqb-true, eqb-false, ltb-true, ltb-false}
+use lib.Dec.{eqb, ltb}
 use lib.ListN.{length, getD, set}
+use lib.Seq.{set-getD, set-out}
 use Rattle.machine.specs.Machine.{zeroThread, statusAt, withStatus, withStatusAt}
 use Rattle.machine.specs.Types.{Status, Thread, Machine}
 
@@ -68,3 +72,33 @@ pub restated-map : (f : Status → Status) (xs : List Thread)
 unfolding restated
 restated-map f [] = refl
 restated-map f (x ∷ xs) = ap {B = List Thread} (λ r. withStatus x (f (x .status)) ∷ r) (restated-map f xs)
+
+-- where one thread's status is looked for and the others are written as they were: so far it has the status, or is still to come
+pub record Placed (m : Machine) (thread : ℕ) (s : Status) (t : ℕ) (now : Machine) : Type 0 where
+  pub passed : thread < t → now ≡ withStatusAt m thread s
+  pub ahead : t ≤ thread → now ≡ m
+
+pub placed-step : (m : Machine) (thread : ℕ) (s : Status) (t : ℕ) (now : Machine) → Placed m thread s t now
+    → Placed m thread s (t + 1) (withStatusAt now t (cond (eqb t thread) s (statusAt now t)))
+placed-step m thread s t now k = go (eqb t thread) refl
+  where
+    go : (b : Bool) → eqb t thread ≡ b → Placed m thread s (t + 1) (withStatusAt now t (cond b s (statusAt now t)))
+    go true e =
+        let f : t ≡ thread = eqb-true t thread e in
+        record { passed = λ l. (λ i. withStatusAt (k .ahead (omega arith) i) (f i) s); ahead = λ l. absurd (omega arith) }
+    go false e =
+        let f : withStatusAt now t (statusAt now t) ≡ now =
+        ap (λ xs. record { enabled = now .enabled; last = now .last; threads = xs }) (set-getD (now .threads) t zeroThread) in
+        record { passed = λ l. f ∙ k .passed (omega (arith, eqb-false t thread e)); ahead = λ l. f ∙ k .ahead (omega arith) }
+
+-- past the last entry it has the status; where there is no such thread, nothing had to change
+pub placed-end : (m : Machine) (thread : ℕ) (s : Status) (t : ℕ) (now : Machine) → Placed m thread s t now → length (m .threads) ≤ t
+    → now ≡ withStatusAt m thread s
+placed-end m thread s t now k l = go (ltb thread t) refl
+  where
+    go : (b : Bool) → ltb thread t ≡ b → now ≡ withStatusAt m thread s
+    go true e = k .passed (ltb-true thread t e)
+    go false e =
+        k .ahead (ltb-false thread t e)
+        ∙ ap (λ xs. record { enabled = m .enabled; last = m .last; threads = xs })
+        (sym (set-out (m .threads) thread (withStatus (getD (m .threads) thread zeroThread) s) (omega (arith, ltb-false thread t e))))

@@ -1,5 +1,6 @@
 // The machine record, and how one thread's entry changes.
 ghost use Prim.Native.Nat.{_<_};
+ghost use mathlib.Core.Bool.{cond};
 ghost use mathlib.Core.Path.{_≡_};
 ghost use lib.Dec.{eqb};
 ghost use Rattle.machine.specs.Machine.{statusAt, withStatusAt, bit, zeroed, startStatus, start, trap, end};
@@ -32,6 +33,15 @@ fn start_status(mask: u8, thread: usize) -> Status
     Status::Running
 }
 
+fn either(first: bool, a: Status, b: Status) -> Status
+    ensures { λ r. ⌜ r ≡ cond first a b ⌝ }
+{
+    if first {
+        return a;
+    }
+    b
+}
+
 impl Machine {
     // The record with every number 0.
     pub fn zero() -> Machine
@@ -57,16 +67,17 @@ impl Machine {
         entry.status
     }
 
-    // The record with another status of one thread.
+    // The record with another status of one thread. Every entry is written, each at its fixed place: a place known only when it
+    // runs would have the compiler copy the whole record for each issue.
     pub(crate) fn with_status(mut self, thread: usize, status: Status) -> Machine
         ensures { λ r. ⌜ r ≡ withStatusAt self thread status ⌝ }
     {
-        if 8 <= thread {
-            return self;
+        for t in 0..8usize {
+            let entry = self.threads[t];
+            let old = entry.status;
+            let next = entry.with_status(either(t == thread, status, old));
+            self.threads[t] = next;
         }
-        let entry = self.threads[thread];
-        let next = entry.with_status(status);
-        self.threads[thread] = next;
         self
     }
 

@@ -1,5 +1,5 @@
 -- `issuing::issue` meets its contract: by the test of the lengths and the thread.
-use mathlib.Core.Path.{sym, _∙_}
+use mathlib.Core.Path.{refl, sym, _∙_}
 use Rattle.execution.proofs.Fitting.{fitting}
 use Rattle.execution.specs.Issue.{issue}
 use borrow.Author.Needs.{needs}
@@ -15,5 +15,5 @@ issue-spec =
     (λ c κs. let h = fitting _ _ _ (sym (c .before .before .before .fits2 .ensures) ∙ c .before .before .if1 .taken) in ((h .1, h .2), h .0))
     (λ c. search needs)
     (λ c. search needs)
-    (λ c. rw (← c .before .before .before .before .before .before .before .before .fits2 .ensures, c .before .before .before .before .before .before .before .if1 .taken, c .before .before .before .before .perform .ensures))
-    (λ c. rw (← c .before .fits2 .ensures, c .if1 .left)))
+    (λ c. (rw (← c .before .before .before .before .before .before .before .before .fits2 .ensures, c .before .before .before .before .before .before .before .if1 .taken, c .before .before .before .before .perform .ensures .0), c .before .before .before .before .perform .ensures .1))
+    (λ c. (rw (← c .before .fits2 .ensures, c .if1 .left), λ e. refl)))

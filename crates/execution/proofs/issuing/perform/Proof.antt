@@ -1,7 +1,8 @@
 -- `issuing::perform` meets its contract: by the test of the program counter, then by what the record owes the word.
-use mathlib.Core.Path.{sym, _∙_}
+use mathlib.Core.Path.{refl, sym, _∙_}
 use lib.ListN.{length}
 use borrow.Author.Tests.{not-true, not-false}
+use Rattle.machine.proofs.Tests.{never}
 use Rattle.execution.proofs.Targets.{before-end}
 use Rattle.execution.specs.Issue.{perform}
 use borrow.Author.Needs.{needs}
@@ -18,7 +19,7 @@ perform-spec =
     (λ c κs. search needs)
     (λ c κs. search needs)
     (λ c. search needs)
-    (λ c. rw (← c .before .before .before .scalar .ensures, ← c .before .before .in-program .ensures, not-true (c .before .before .in-program .result) (c .before .if1 .taken), c .trap .ensures))
+    (λ c. (rw (← c .before .before .before .scalar .ensures, ← c .before .before .in-program .ensures, not-true (c .before .before .in-program .result) (c .before .if1 .taken), c .trap .ensures), λ e. never refl e))
     (λ c. search needs)
     (λ c. search needs)
     (λ c. omega (arith, before-end (length (c .before .before .before .before .before .before .before .before .args .program .now)) (c .before .before .before .scalar .result) (sym (c .before .before .in-program .ensures) ∙ not-false (c .before .before .in-program .result) (c .before .if1 .left))))
@@ -32,13 +33,13 @@ perform-spec =
     (λ c κs. (search needs, omega (arith, c .before .before .before .before .before .before .before .before .before .before .before .before .before .before .before .before .before .before .before .pre .1, before-end (length (c .before .before .before .before .before .before .before .before .before .before .before .before .before .before .before .before .before .before .before .args .program .now)) (c .before .before .before .before .before .before .before .before .before .before .before .before .before .before .scalar .result) (sym (c .before .before .before .before .before .before .before .before .before .before .before .before .before .in-program .ensures) ∙ not-false (c .before .before .before .before .before .before .before .before .before .before .before .before .before .in-program .result) (c .before .before .before .before .before .before .before .before .before .before .before .before .if1 .left)))))
     (λ c. search needs)
     (λ c. search needs)
-    (λ c. rw (← c .before .before .before .before .before .before .before .before .before .before .before .before .scalar .ensures, ← c .before .before .before .before .before .before .before .before .before .before .before .in-program .ensures, not-false (c .before .before .before .before .before .before .before .before .before .before .before .in-program .result) (c .before .before .before .before .before .before .before .before .before .before .if1 .left), ← c .before .before .before .before .before .before .word .ensures, c .enum-told .given .1))
+    (λ c. (rw (← c .before .before .before .before .before .before .before .before .before .before .before .before .scalar .ensures, ← c .before .before .before .before .before .before .before .before .before .before .before .in-program .ensures, not-false (c .before .before .before .before .before .before .before .before .before .before .before .in-program .result) (c .before .before .before .before .before .before .before .before .before .before .if1 .left), ← c .before .before .before .before .before .before .word .ensures, c .enum-told .given .1), λ e. refl))
     (λ c. search needs)
     (λ c. search needs)
-    (λ c. rw (← c .before .before .before .before .before .before .before .before .before .before .before .before .before .before .scalar .ensures, ← c .before .before .before .before .before .before .before .before .before .before .before .before .before .in-program .ensures, not-false (c .before .before .before .before .before .before .before .before .before .before .before .before .before .in-program .result) (c .before .before .before .before .before .before .before .before .before .before .before .before .if1 .left), ← c .before .before .before .before .before .before .before .before .word .ensures, c .before .before .reason .given .1, c .trap2 .ensures))
+    (λ c. (rw (← c .before .before .before .before .before .before .before .before .before .before .before .before .before .before .scalar .ensures, ← c .before .before .before .before .before .before .before .before .before .before .before .before .before .in-program .ensures, not-false (c .before .before .before .before .before .before .before .before .before .before .before .before .before .in-program .result) (c .before .before .before .before .before .before .before .before .before .before .before .before .if1 .left), ← c .before .before .before .before .before .before .before .before .word .ensures, c .before .before .reason .given .1, c .trap2 .ensures), λ e. never refl e))
     (λ c. search needs)
     (λ c. search needs)
-    (λ c. rw (← c .before .before .before .before .before .before .before .before .before .before .before .before .before .scalar .ensures, ← c .before .before .before .before .before .before .before .before .before .before .before .before .in-program .ensures, not-false (c .before .before .before .before .before .before .before .before .before .before .before .before .in-program .result) (c .before .before .before .before .before .before .before .before .before .before .before .if1 .left), ← c .before .before .before .before .before .before .before .word .ensures, c .before .enum-told2 .given .1, c .end .ensures))
+    (λ c. (rw (← c .before .before .before .before .before .before .before .before .before .before .before .before .before .scalar .ensures, ← c .before .before .before .before .before .before .before .before .before .before .before .before .in-program .ensures, not-false (c .before .before .before .before .before .before .before .before .before .before .before .before .in-program .result) (c .before .before .before .before .before .before .before .before .before .before .before .if1 .left), ← c .before .before .before .before .before .before .before .word .ensures, c .before .enum-told2 .given .1, c .end .ensures), λ e. never refl e))
     (λ c. search needs)
     (λ c. search needs)
-    (λ c. rw (← c .before .before .before .before .before .before .before .before .before .before .before .before .before .before .before .before .before .scalar .ensures, ← c .before .before .before .before .before .before .before .before .before .before .before .before .before .before .before .before .in-program .ensures, not-false (c .before .before .before .before .before .before .before .before .before .before .before .before .before .before .before .before .in-program .result) (c .before .before .before .before .before .before .before .before .before .before .before .before .before .before .before .if1 .left), ← c .before .before .before .before .before .before .before .before .before .before .before .word .ensures, c .before .before .before .before .before .id .given .1, c .before .before .meet .ensures .0, c .before .before .meet .ensures .1)))
+    (λ c. (rw (← c .before .before .before .before .before .before .before .before .before .before .before .before .before .before .before .before .before .scalar .ensures, ← c .before .before .before .before .before .before .before .before .before .before .before .before .before .before .before .before .in-program .ensures, not-false (c .before .before .before .before .before .before .before .before .before .before .before .before .before .before .before .before .in-program .result) (c .before .before .before .before .before .before .before .before .before .before .before .before .before .before .before .if1 .left), ← c .before .before .before .before .before .before .before .before .before .before .before .word .ensures, c .before .before .before .before .before .id .given .1, c .before .before .meet .ensures .0, c .before .before .meet .ensures .1), λ e. never refl e)))
