@@ -4,6 +4,3 @@ pub mod Complement
 pub mod Counts
 pub mod Signs
 pub mod Signed
-pub mod Filling
-pub mod Order
-pub mod Flags

@@ -1,16 +1,13 @@
 -- What is proved of the definitions.
 use Prim.Native.Nat.{ℕ, _<_, _%_, _^_}
 use mathlib.Core.Path.{_≡_}
-use mathlib.Core.List.{List}
 use lib.IntN.{_*ℤ_}
-use lib.ListN.{length}
 use lib.Signed.{ltZ, leZ, shrZ}
-use Rattle.alu.specs.Types.{BinaryOp, Mulhi, Ashr, UnaryOp, Sext8, Sext16, Gt, Ge, Lt, Le}
+use Rattle.alu.specs.Types.{Mulhi, Ashr, Sext8, Sext16, Gt, Ge, Lt, Le}
 use Rattle.alu.specs.Word.{value}
 use Rattle.alu.specs.Binary.{binary, distance}
 use Rattle.alu.specs.Unary.{unary}
 use Rattle.alu.specs.Compare.{compare}
-use Rattle.alu.specs.Lanes.{tab, lane, binaryLanes, unaryLanes, shuffled, blended, splatted}
 
 -- "7 mulhi (signed)": the signed product, divided by 2^32 and rounded down
 abbrev pub MulhiIsSigned : Type 0
@@ -36,19 +33,3 @@ pub record ComparesAreSigned (x y : ℕ) : Type 0 where
 
 abbrev pub SignedOrder : Type 0
 SignedOrder = (x y : ℕ) → x < 2 ^ 32 → y < 2 ^ 32 → ComparesAreSigned x y
-
--- a list given place by place has that many places,
-abbrev pub TabLength : Type 0
-TabLength = (n : ℕ) (f : ℕ → ℕ) → length (tab n f) ≡ n
-
--- and holds at each what is given for it
-abbrev pub TabLane : Type 0
-TabLane = (n j : ℕ) (f : ℕ → ℕ) → j < n → lane (tab n f) j ≡ f j
-
--- the results on lanes are sixteen lanes
-pub record SixteenLanes : Type 0 where
-  pub of-binary : (op : BinaryOp) (x y : List ℕ) → length (binaryLanes op x y) ≡ 16
-  pub of-unary : (op : UnaryOp) (x : List ℕ) → length (unaryLanes op x) ≡ 16
-  pub of-shuffle : (x y : List ℕ) → length (shuffled x y) ≡ 16
-  pub of-blend : (mask : ℕ) (new old : List ℕ) → length (blended mask new old) ≡ 16
-  pub of-splat : (x : ℕ) → length (splatted x) ≡ 16

@@ -2,7 +2,7 @@
 use Prim.Native.Nat.{ℕ, _+_, _*_, _/_, _%_, _^_}
 use mathlib.Core.Bool.{Bool, cond}
 use mathlib.Core.List.{List}
-use Rattle.alu.specs.Lanes.{tab, lane}
+use Rattle.vector.specs.Lanes.{tab, lane}
 use Rattle.execution.specs.Registers.{scalar, vector, withScalar, withLanesOn}
 use Rattle.execution.specs.Types.{MoveiOp, Low, High, Whole}
 

@@ -45,7 +45,7 @@ pub fn lanes(room: &[u32], t: usize, s: Source) -> [u32; 16]
     ensures { λ r. ⌜ r ≡ lanes (now (room .entry)) t s ⌝ }
 {
     match s {
-        Source::Scalar(x) => alu::splat(x),
+        Source::Scalar(x) => vector::splat(x),
         Source::Vector(i) => registers::vector(room, t, i),
     }
 }

@@ -23,7 +23,7 @@ fn binary(room: &mut [u32], t: usize, op: BinaryOp, flag: bool, d: u8, a: Source
         let y = operand::lanes(room, t, b);
         let mask = registers::scalar(room, t, registers::LANE_MASK);
         let old = registers::vector(room, t, d);
-        registers::set_vector(room, t, d, alu::binary_masked(op, mask, x, y, old));
+        registers::set_vector(room, t, d, vector::binary_masked(op, mask, x, y, old));
     } else {
         let x = operand::word(a);
         let y = operand::word(b);
@@ -39,7 +39,7 @@ fn unary(room: &mut [u32], t: usize, op: UnaryOp, flag: bool, d: u8, a: Source)
         let x = operand::lanes(room, t, a);
         let mask = registers::scalar(room, t, registers::LANE_MASK);
         let old = registers::vector(room, t, d);
-        registers::set_vector(room, t, d, alu::unary_masked(op, mask, x, old));
+        registers::set_vector(room, t, d, vector::unary_masked(op, mask, x, old));
     } else {
         let x = operand::word(a);
         registers::set_scalar(room, t, d, alu::unary(op, x));
@@ -60,7 +60,7 @@ fn compare(room: &mut [u32], t: usize, op: CompareOp, d: u8, a: Source, b: Sourc
         let x = operand::lanes(room, t, a);
         let y = operand::lanes(room, t, b);
         let mask = registers::scalar(room, t, registers::LANE_MASK);
-        registers::set_scalar(room, t, d, alu::compare_lanes(op, mask, x, y));
+        registers::set_scalar(room, t, d, vector::compare_lanes(op, mask, x, y));
     } else {
         let x = operand::word(a);
         let y = operand::word(b);
@@ -74,7 +74,7 @@ fn shuffle(room: &mut [u32], t: usize, d: u8, a: Source, b: Source)
 {
     let x = operand::lanes(room, t, a);
     let y = operand::lanes(room, t, b);
-    registers::set_lanes_on(room, t, d, alu::shuffle(x, y));
+    registers::set_lanes_on(room, t, d, vector::shuffle(x, y));
 }
 
 fn get_lane(room: &mut [u32], t: usize, d: u8, a: Source, b: Source)
@@ -122,9 +122,9 @@ pub fn operate_r(room: &mut [u32], t: usize, op: Operation, flags: u8, d: u8, a:
         let y = registers::scalar(room, t, b);
         operate_scalars(room, t, op, d, x, y);
     } else {
-        let x = operand::select(room, t, alu::is_on(flags as u32, 1), a);
-        let y = operand::select(room, t, alu::is_on(flags as u32, 0), b);
-        operate(room, t, op, alu::is_on(flags as u32, 2), d, x, y);
+        let x = operand::select(room, t, vector::is_on(flags as u32, 1), a);
+        let y = operand::select(room, t, vector::is_on(flags as u32, 0), b);
+        operate(room, t, op, vector::is_on(flags as u32, 2), d, x, y);
     }
 }
 
@@ -136,12 +136,12 @@ pub fn operate_i(room: &mut [u32], t: usize, op: Operation, flags: u8, d: u8, a:
         let x = registers::scalar(room, t, a);
         operate_scalars(room, t, op, d, x, immediate);
     } else {
-        let x = operand::select(room, t, alu::is_on(flags as u32, 0), a);
+        let x = operand::select(room, t, vector::is_on(flags as u32, 0), a);
         operate(
             room,
             t,
             op,
-            alu::is_on(flags as u32, 1),
+            vector::is_on(flags as u32, 1),
             d,
             x,
             Source::Scalar(immediate),

@@ -54,7 +54,7 @@ pub fn set_lanes_on(room: &mut [u32], t: usize, i: u8, v: [u32; 16])
 {
     let mask = scalar(room, t, LANE_MASK);
     let old = vector(room, t, i);
-    set_vector(room, t, i, alu::blend(mask, v, old));
+    set_vector(room, t, i, vector::blend(mask, v, old));
 }
 
 // s63 moves on from the word's own address.

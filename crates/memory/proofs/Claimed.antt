@@ -9,8 +9,8 @@ use lib.IntN.{pos, negsuc, subℕ, _+ℤ_}
 use lib.ListN.{length, set, length-set}
 use borrow.Author.Tests.{leb-true, leb-false, lt-ltb, le-ltb, ltb-true, ltb-false}
 use Rattle.alu.specs.Word.{value}
-use Rattle.alu.specs.Lanes.{lane, isOn}
-use Rattle.alu.proofs.Filling.{tab-length}
+use Rattle.vector.specs.Lanes.{lane, isOn}
+use Rattle.vector.proofs.Filling.{tab-length}
 use Rattle.alu.proofs.Signed.{value-positive, value-negative}
 use Rattle.memory.specs.Place.{lifted, place}
 use Rattle.memory.specs.Attempt.{Attempt, done, trap}

@@ -4,7 +4,7 @@ use mathlib.Core.Bool.{cond}
 use mathlib.Core.List.{List}
 use lib.ListN.{length}
 use Rattle.alu.specs.Unary.{unary}
-use Rattle.alu.specs.Lanes.{tab, lane, isOn}
+use Rattle.vector.specs.Lanes.{tab, lane, isOn}
 use Rattle.memory.specs.Types.{LoadOp, Load8, Load16, Load32, Load8u, Load16u, StoreOp, Store8, Store16, Store32, Sext8, Sext16, Access, LoadedLanes}
 use Rattle.memory.specs.Attempt.{Attempt, done, trap, onward, ofAccess}
 use Rattle.memory.specs.Place.{lifted, place}

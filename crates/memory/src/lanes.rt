@@ -63,7 +63,7 @@ fn write_lanes(memory: &mut [u8], a: usize, mask: u32, v: [u32; 16])
     ensures { λ _. ⌜ now (memory .exit) ≡ withLanes (now (memory .entry)) a mask v ⌝ }
 {
     for j in 0..16usize {
-        write_lane(memory, a + 4 * j, alu::is_on(mask, j), v[j]);
+        write_lane(memory, a + 4 * j, vector::is_on(mask, j), v[j]);
     }
 }
 

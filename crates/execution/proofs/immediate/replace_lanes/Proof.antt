@@ -2,8 +2,8 @@
 use mathlib.Core.Path.{refl}
 use Prim.Native.Nat.{_-_}
 use borrow.Author.Needs.{needs}
-use Rattle.alu.proofs.Filling.{Filling, start, more, whole}
-use Rattle.alu.specs.Lanes.{lane}
+use Rattle.vector.proofs.Filling.{Filling, start, more, whole}
+use Rattle.vector.specs.Lanes.{lane}
 use Rattle.execution.specs.Immediate.{replaced, replacedLanes}
 use Rattle.execution.proofs.immediate.replace_lanes.Statement.{statement}
 use Rattle.execution.proofs.immediate.replace_lanes.Tie as tie

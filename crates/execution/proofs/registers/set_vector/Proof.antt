@@ -3,7 +3,7 @@ use mathlib.Core.Path.{refl}
 use Prim.Native.Nat.{_-_}
 use borrow.Author.Needs.{needs}
 use lib.ListN.{set, length-set}
-use Rattle.alu.specs.Lanes.{lane}
+use Rattle.vector.specs.Lanes.{lane}
 use Rattle.execution.specs.Registers.{lanePlace, withVector}
 use Rattle.memory.proofs.Stepping.{Stepping, start, more, whole}
 use Rattle.execution.proofs.registers.set_vector.Statement.{statement}

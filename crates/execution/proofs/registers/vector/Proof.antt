@@ -3,7 +3,7 @@ use mathlib.Core.Path.{refl}
 use Prim.Native.Nat.{_-_}
 use borrow.Author.Needs.{needs}
 use lib.ListN.{getD}
-use Rattle.alu.proofs.Filling.{Filling, start, more, whole}
+use Rattle.vector.proofs.Filling.{Filling, start, more, whole}
 use Rattle.execution.specs.Registers.{lanePlace, vector}
 use Rattle.execution.proofs.registers.vector.Statement.{statement}
 use Rattle.execution.proofs.registers.vector.Tie as tie

@@ -2,7 +2,7 @@
 use mathlib.Core.Path.{_≡_, sym, ap, _∙_}
 use denote.Ref.{now}
 use borrow.Author.Needs.{needs}
-use Rattle.alu.specs.Lanes.{tab}
+use Rattle.vector.specs.Lanes.{tab}
 use Rattle.memory.specs.Types.{Access}
 use Rattle.memory.specs.Operation.{vectorPlace, ofLanes, loadLanes}
 use Rattle.memory.specs.Attempt.{ofPlace}

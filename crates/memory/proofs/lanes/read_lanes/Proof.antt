@@ -2,7 +2,7 @@
 use mathlib.Core.Path.{refl}
 use Prim.Native.Nat.{_+_, _-_, _*_}
 use borrow.Author.Needs.{needs}
-use Rattle.alu.proofs.Filling.{Filling, start, more, whole}
+use Rattle.vector.proofs.Filling.{Filling, start, more, whole}
 use Rattle.memory.specs.Bytes.{numberAt}
 use Rattle.memory.specs.Operation.{lanesAt}
 use Rattle.memory.proofs.lanes.read_lanes.Statement.{statement}

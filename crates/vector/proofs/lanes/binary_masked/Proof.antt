@@ -1,0 +1,10 @@
+-- `lanes::binary_masked` meets its contract.
+use borrow.Author.Needs.{needs}
+use Rattle.vector.proofs.lanes.binary_masked.Statement.{statement}
+use Rattle.vector.proofs.lanes.binary_masked.Tie as tie
+
+returns : tie.Need-returns
+returns c = cc
+
+pub binary-masked-spec : {M : Type 1} → statement M
+binary-masked-spec = tie.close (tie.spec (λ c κs. search needs) (λ c κs. search needs) returns)
