@@ -3,6 +3,7 @@ pub mod Tests
 pub mod Join
 pub mod Parts
 pub mod Rows
+pub mod Openings
 pub mod Words
 pub mod Table
 pub mod Standing

@@ -17,7 +17,7 @@ use Rattle.machine.specs.WellFormed.{wellFormed}
 use Rattle.image.specs.Calls.{Writing, writing, writeRefusal, write, Reading, reading, readRefusal, read}
 use Rattle.image.specs.Image.{shapeOf, Lengths, image, recordIn, stateIn}
 use Rattle.image.specs.Layout.{ofBlocks, kinds, startOf, headsIn}
-use Rattle.image.specs.Refusal.{imageLength, badLength, sizeChecks, sizesNumber, writeNumber, recordChecks, recordsNumber, readNumber}
+use Rattle.image.specs.Refusal.{imageLength, badLength, sizeChecks, sizesNumber, writeNumber, contentNumber, recordChecks, recordsNumber, readNumber}
 use Rattle.image.specs.Types.{Shape}
 use Rattle.image.proofs.Rows.{whole-length}
 
@@ -134,18 +134,23 @@ module _ (s : State) (buffer : List ℕ) where
 
 -- Reading.
 
+module _ (heads accepted : Bool) where
+  pub content-heads : heads ≡ false → contentNumber heads accepted ≡ some 10
+  unfolding contentNumber firstThatApplies
+  content-heads h = rw h
+
+  pub content-bad : heads ≡ true → accepted ≡ false → contentNumber heads accepted ≡ some 4
+  unfolding contentNumber firstThatApplies
+  content-bad h g = rw (h, g)
+
+  pub content-none : heads ≡ true → accepted ≡ true → contentNumber heads accepted ≡ none
+  unfolding contentNumber firstThatApplies
+  content-none h g = rw (h, g)
+
 module _ (s : Shape) (l : List ℕ) where
-  pub records-heads : headsIn s l ≡ false → recordsNumber s l ≡ some 10
-  unfolding recordsNumber firstThatApplies
-  records-heads h = rw h
-
-  pub records-bad : headsIn s l ≡ true → recordIn s l ≡ false → recordsNumber s l ≡ some 4
-  unfolding recordsNumber firstThatApplies
-  records-bad h g = rw (h, g)
-
   pub records-none : headsIn s l ≡ true → recordIn s l ≡ true → recordsNumber s l ≡ none
-  unfolding recordsNumber firstThatApplies
-  records-none h g = rw (h, g)
+  unfolding recordsNumber contentNumber
+  records-none = content-none (headsIn s l) (recordIn s l)
 
   pub records-good : recordsNumber s l ≡ none → (headsIn s l ≡ true) × (recordIn s l ≡ true)
   unfolding recordsNumber firstThatApplies
