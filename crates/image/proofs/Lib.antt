@@ -3,12 +3,12 @@ pub mod Tests
 pub mod Join
 pub mod Parts
 pub mod Rows
-pub mod Openings
 pub mod Words
 pub mod Table
 pub mod Standing
 pub mod Refusals
 pub mod RecordIn
+pub mod Openings
 pub mod Rooms
 pub mod Written
 pub mod Restored

@@ -27,7 +27,7 @@ passed true n rest h = absurd (let z : _≡_ {A = ℕ} 0 1 = cc in omega arith)
 passed false n rest h = (refl, h)
 
 -- some checks before others
-first-after : (a b : List Check) → firstThatApplies (a ++ b) ≡ refusedOr (firstThatApplies a) some (firstThatApplies b)
+pub first-after : (a b : List Check) → firstThatApplies (a ++ b) ≡ refusedOr (firstThatApplies a) some (firstThatApplies b)
 unfolding firstThatApplies
 first-after [] b = refl
 first-after (c ∷ cs) b = go (c .applies) (first-after cs b)
@@ -38,7 +38,7 @@ first-after (c ∷ cs) b = go (c .applies) (first-after cs b)
     go false e = e
 
 -- a number is given, or none
-either-given : (o p : Option ℕ) → refusedOr o some p ≡ none → (o ≡ none) × (p ≡ none)
+pub either-given : (o p : Option ℕ) → refusedOr o some p ≡ none → (o ≡ none) × (p ≡ none)
 either-given none p h = (refl, h)
 either-given (some n) p h = absurd (let z : _≡_ {A = ℕ} 0 1 = cc in omega arith)
 
@@ -147,17 +147,21 @@ module _ (heads accepted : Bool) where
   unfolding contentNumber firstThatApplies
   content-none h g = rw (h, g)
 
+  pub content-good : contentNumber heads accepted ≡ none → (heads ≡ true) × (accepted ≡ true)
+  unfolding contentNumber firstThatApplies
+  content-good h =
+      let a = passed (not heads) 10 _ h in
+      let b = passed (not accepted) 4 none (a .1) in
+      (not-false heads (a .0), not-false accepted (b .0))
+
 module _ (s : Shape) (l : List ℕ) where
   pub records-none : headsIn s l ≡ true → recordIn s l ≡ true → recordsNumber s l ≡ none
   unfolding recordsNumber contentNumber
   records-none = content-none (headsIn s l) (recordIn s l)
 
   pub records-good : recordsNumber s l ≡ none → (headsIn s l ≡ true) × (recordIn s l ≡ true)
-  unfolding recordsNumber firstThatApplies
-  records-good h =
-      let a = passed (not (headsIn s l)) 10 _ h in
-      let b = passed (not (recordIn s l)) 4 none (a .1) in
-      (not-false (headsIn s l) (a .0), not-false (recordIn s l) (b .0))
+  unfolding recordsNumber contentNumber
+  records-good = content-good (headsIn s l) (recordIn s l)
 
 pub read-number : (l : List ℕ) (room bytes : ℕ) → readNumber l room bytes ≡ refusedOr (sizesNumber room bytes (length l)) some (recordsNumber (ofBlocks (bytes / 64)) l)
 unfolding readNumber sizesNumber recordsNumber
