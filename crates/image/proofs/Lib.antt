@@ -8,6 +8,7 @@ pub mod Table
 pub mod Standing
 pub mod Refusals
 pub mod RecordIn
+pub mod Openings
 pub mod Rooms
 pub mod Written
 pub mod Restored

@@ -15,7 +15,7 @@ use Rattle.image.specs.Layout.{rowOf, kinds, orderOf, recordSize, startO
 use Rattle.image.specs.Types.{Hd, Th, Shape, Kind, Thread, Machine}
 use Rattle.image.proofs.Join.{grown-whole, length-even}
 use Rattle.image.proofs.Parts.{joined-same}
-use Rattle.image.proofs.Rows.{record-room, kind-room}
+use Rattle.image.proofs.Rows.{record-room, kind-room-in, order-few}
 use Rattle.image.proofs.Tests.{all-same}
 
 -- a byte of a part
@@ -38,8 +38,11 @@ module _ (s : Shape) (k : Kind) where
   pub fixed-place : (first size : ℕ) → first ≡ bodyPlace (rowOf s k) start 0 → size ≡ recordSize (rowOf s k) → (i : ℕ) → first + size * i ≡ bodyPlace (rowOf s k) start i
   fixed-place first size e f i = (λ n. e n + f n * i) ∙ omega arith
 
+  pub body-room-in : (n i len : ℕ) → orderOf k < n → i < rowOf s k .count → startOf s n ≤ len → bodyPlace (rowOf s k) start i + rowOf s k .size ≤ len
+  body-room-in n i len l h e = omega (arith, record-room (rowOf s k) start i (startOf s n) h (kind-room-in s k n l))
+
   pub body-room : (i len : ℕ) → i < rowOf s k .count → startOf s kinds ≤ len → bodyPlace (rowOf s k) start i + rowOf s k .size ≤ len
-  body-room i len h e = omega (arith, record-room (rowOf s k) start i (startOf s kinds) h (kind-room s k))
+  body-room i len h e = body-room-in kinds i len (order-few k) h e
 
 -- The entries.
 

@@ -17,7 +17,7 @@ use Rattle.machine.specs.WellFormed.{wellFormed}
 use Rattle.image.specs.Calls.{Writing, writing, writeRefusal, write, Reading, reading, readRefusal, read}
 use Rattle.image.specs.Image.{shapeOf, Lengths, image, recordIn, stateIn}
 use Rattle.image.specs.Layout.{ofBlocks, kinds, startOf, headsIn}
-use Rattle.image.specs.Refusal.{imageLength, badLength, sizeChecks, sizesNumber, writeNumber, recordChecks, recordsNumber, readNumber}
+use Rattle.image.specs.Refusal.{imageLength, badLength, sizeChecks, sizesNumber, writeNumber, contentNumber, recordChecks, recordsNumber, readNumber}
 use Rattle.image.specs.Types.{Shape}
 use Rattle.image.proofs.Rows.{whole-length}
 
@@ -27,7 +27,7 @@ passed true n rest h = absurd (let z : _≡_ {A = ℕ} 0 1 = cc in omega arith)
 passed false n rest h = (refl, h)
 
 -- some checks before others
-first-after : (a b : List Check) → firstThatApplies (a ++ b) ≡ refusedOr (firstThatApplies a) some (firstThatApplies b)
+pub first-after : (a b : List Check) → firstThatApplies (a ++ b) ≡ refusedOr (firstThatApplies a) some (firstThatApplies b)
 unfolding firstThatApplies
 first-after [] b = refl
 first-after (c ∷ cs) b = go (c .applies) (first-after cs b)
@@ -38,7 +38,7 @@ first-after (c ∷ cs) b = go (c .applies) (first-after cs b)
     go false e = e
 
 -- a number is given, or none
-either-given : (o p : Option ℕ) → refusedOr o some p ≡ none → (o ≡ none) × (p ≡ none)
+pub either-given : (o p : Option ℕ) → refusedOr o some p ≡ none → (o ≡ none) × (p ≡ none)
 either-given none p h = (refl, h)
 either-given (some n) p h = absurd (let z : _≡_ {A = ℕ} 0 1 = cc in omega arith)
 
@@ -134,25 +134,34 @@ module _ (s : State) (buffer : List ℕ) where
 
 -- Reading.
 
+module _ (heads accepted : Bool) where
+  pub content-heads : heads ≡ false → contentNumber heads accepted ≡ some 10
+  unfolding contentNumber firstThatApplies
+  content-heads h = rw h
+
+  pub content-bad : heads ≡ true → accepted ≡ false → contentNumber heads accepted ≡ some 4
+  unfolding contentNumber firstThatApplies
+  content-bad h g = rw (h, g)
+
+  pub content-none : heads ≡ true → accepted ≡ true → contentNumber heads accepted ≡ none
+  unfolding contentNumber firstThatApplies
+  content-none h g = rw (h, g)
+
+  pub content-good : contentNumber heads accepted ≡ none → (heads ≡ true) × (accepted ≡ true)
+  unfolding contentNumber firstThatApplies
+  content-good h =
+      let a = passed (not heads) 10 _ h in
+      let b = passed (not accepted) 4 none (a .1) in
+      (not-false heads (a .0), not-false accepted (b .0))
+
 module _ (s : Shape) (l : List ℕ) where
-  pub records-heads : headsIn s l ≡ false → recordsNumber s l ≡ some 10
-  unfolding recordsNumber firstThatApplies
-  records-heads h = rw h
-
-  pub records-bad : headsIn s l ≡ true → recordIn s l ≡ false → recordsNumber s l ≡ some 4
-  unfolding recordsNumber firstThatApplies
-  records-bad h g = rw (h, g)
-
   pub records-none : headsIn s l ≡ true → recordIn s l ≡ true → recordsNumber s l ≡ none
-  unfolding recordsNumber firstThatApplies
-  records-none h g = rw (h, g)
+  unfolding recordsNumber contentNumber
+  records-none = content-none (headsIn s l) (recordIn s l)
 
   pub records-good : recordsNumber s l ≡ none → (headsIn s l ≡ true) × (recordIn s l ≡ true)
-  unfolding recordsNumber firstThatApplies
-  records-good h =
-      let a = passed (not (headsIn s l)) 10 _ h in
-      let b = passed (not (recordIn s l)) 4 none (a .1) in
-      (not-false (headsIn s l) (a .0), not-false (recordIn s l) (b .0))
+  unfolding recordsNumber contentNumber
+  records-good = content-good (headsIn s l) (recordIn s l)
 
 pub read-number : (l : List ℕ) (room bytes : ℕ) → readNumber l room bytes ≡ refusedOr (sizesNumber room bytes (length l)) some (recordsNumber (ofBlocks (bytes / 64)) l)
 unfolding readNumber sizesNumber recordsNumber

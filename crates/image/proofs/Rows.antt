@@ -9,7 +9,7 @@ use lib.ListN.{length, take, drop, length-append, length-drop}
 use lib.Seq.{length-take-le}
 use Rattle.execution.specs.State.{State}
 use Rattle.image.specs.Bytes.{bytesOf}
-use Rattle.image.specs.Image.{shapeOf, Lengths, bodyOf, image}
+use Rattle.image.specs.Image.{shapeOf, Lengths, Suits, bodyOf, image}
 use Rattle.image.specs.Join.{total, joined}
 use Rattle.image.specs.Layout.{kinds, rowOf, kindAt, orderOf, placesOf, placesLength, Numbered, headLength, headOf, recordSize, extentOf, recordOf, sectionOf, laidOut, startOf, recordAt}
 use Rattle.image.specs.Types.{Kind, Hd, Th, Sr, Vr, Mm, Places, Nothing, ByThread, ByRegister, ByBlock, Shape, Row}
@@ -30,12 +30,20 @@ places-few ByBlock = omega arith
 pub head-length : (r : Row) (i : ℕ) → length (headOf r i) ≡ headLength (r .places)
 head-length r i = omega (arith, places-length (r .places) i)
 
-pub numbered : (s : Shape) (k : Kind) (i : ℕ) → s .blocks ≤ 1024 → i < rowOf s k .count → Numbered (rowOf s k .places) i
-numbered s Hd i h l = tt
-numbered s Th i h l = omega arith
-numbered s Sr i h l = omega arith
-numbered s Vr i h l = omega arith
-numbered s Mm i h l = omega arith
+-- what each kind asks of the lengths, they have
+pub suits : (registers memory : List ℕ) → Lengths registers memory → (k : Kind) → Suits k registers memory
+suits registers memory w Hd = tt
+suits registers memory w Th = tt
+suits registers memory w Sr = w
+suits registers memory w Vr = w
+suits registers memory w Mm = w
+
+pub numbered : (registers memory : List ℕ) (k : Kind) (i : ℕ) → Suits k registers memory → i < rowOf (shapeOf memory) k .count → Numbered (rowOf (shapeOf memory) k .places) i
+numbered registers memory Hd i w l = tt
+numbered registers memory Th i w l = omega arith
+numbered registers memory Sr i w l = omega arith
+numbered registers memory Vr i w l = omega arith
+numbered registers memory Mm i w l = omega (arith, w .few)
 
 pub size-few : (s : Shape) (k : Kind) → rowOf s k .size ≤ 256
 size-few s Hd = omega arith
@@ -82,13 +90,17 @@ block-length : (n b i : ℕ) (l : List ℕ) → n * b ≡ length l → i < b →
 block-length n b i l e h = length-take-le n (drop (n * i) l) (rw (length-drop (n * i) l) (omega (arith, fits-in n i b h)))
 
 -- the body of a record is as long as its row says
+pub body-length-of : (s : State) (k : Kind) → Suits k (s .registers) (s .memory) → (i : ℕ) → i < rowOf (shapeOf (s .memory)) k .count
+    → length (bodyOf s k i) ≡ rowOf (shapeOf (s .memory)) k .size
+body-length-of s Hd w i h = refl
+body-length-of s Th w i h = refl
+body-length-of s Sr w i h = bytes-length 64 _
+body-length-of s Vr w i h = bytes-length 16 _
+body-length-of s Mm w i h = block-length 64 (length (s .memory) / 64) i (s .memory) (w .whole) h
+
 pub body-length : (s : State) → Lengths (s .registers) (s .memory) → (k : Kind) (i : ℕ) → i < rowOf (shapeOf (s .memory)) k .count
     → length (bodyOf s k i) ≡ rowOf (shapeOf (s .memory)) k .size
-body-length s w Hd i h = refl
-body-length s w Th i h = refl
-body-length s w Sr i h = bytes-length 64 _
-body-length s w Vr i h = bytes-length 16 _
-body-length s w Mm i h = block-length 64 (length (s .memory) / 64) i (s .memory) (w .whole) h
+body-length s w k = body-length-of s k (suits (s .registers) (s .memory) w k)
 
 -- Lengths, over any row.
 
@@ -123,12 +135,19 @@ pub start-next : (s : Shape) (q : ℕ) → startOf s (q + 1) ≡ startOf s q + e
 unfolding startOf total
 start-next s q = rw (add-one q)
 
-pub start-room : (s : Shape) (q : ℕ) → q < kinds → startOf s q + extentOf (rowOf s (kindAt q)) ≤ startOf s kinds
+pub start-room : (s : Shape) (q n : ℕ) → q < n → startOf s q + extentOf (rowOf s (kindAt q)) ≤ startOf s n
 unfolding startOf total
-start-room s q h = total-le (suc q) kinds (λ p. extentOf (rowOf s (kindAt p))) (omega arith)
+start-room s q n h = total-le (suc q) n (λ p. extentOf (rowOf s (kindAt p))) (omega arith)
+
+pub start-few : (s : Shape) (q n : ℕ) → q ≤ n → startOf s q ≤ startOf s n
+unfolding startOf
+start-few s q n h = total-le q n (λ p. extentOf (rowOf s (kindAt p))) h
+
+pub kind-room-in : (s : Shape) (k : Kind) (n : ℕ) → orderOf k < n → startOf s (orderOf k) + extentOf (rowOf s k) ≤ startOf s n
+kind-room-in s k n l = let h = start-room s (orderOf k) n l in rw (kind-order k) at h
 
 pub kind-room : (s : Shape) (k : Kind) → startOf s (orderOf k) + extentOf (rowOf s k) ≤ startOf s kinds
-kind-room s k = let h = start-room s (orderOf k) (order-few k) in rw (kind-order k) at h
+kind-room s k = kind-room-in s k kinds (order-few k)
 
 -- the kinds in order, end to end
 abbrev pub sectionAt : Shape → (Kind → ℕ → List ℕ) → ℕ → List ℕ

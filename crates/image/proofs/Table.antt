@@ -145,5 +145,5 @@ laid-back s l body len ok same =
     joined-same kinds (sectionAt s body) (λ q. take (extentOf (rowOf s (kindAt q))) (drop (startOf s q) l))
     (λ q h. section-same (rowOf s (kindAt q)) (body (kindAt q)) (bodyAt (rowOf s (kindAt q)) (startOf s q) l)
     (λ i k. same (kindAt q) i k ∙ ap (λ z. bodyAt (rowOf s (kindAt q)) (startOf s z) l i) (at-order q h))
-    ∙ section-back (rowOf s (kindAt q)) (startOf s q) l (all-elim kinds (λ q. headsOf (rowOf s (kindAt q)) l (startOf s q)) ok q h) (omega (arith, start-room s q h)))
+    ∙ section-back (rowOf s (kindAt q)) (startOf s q) l (all-elim kinds (λ q. headsOf (rowOf s (kindAt q)) l (startOf s q)) ok q h) (omega (arith, start-room s q kinds h)))
     ∙ (kinds-back s l ∙ take-all (startOf s kinds) l (omega arith))

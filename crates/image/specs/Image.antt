@@ -25,6 +25,14 @@ pub record Lengths (registers memory : List ℕ) : Type 0 where
   pub whole : 64 * (length memory / 64) ≡ length memory
   pub few : length memory / 64 ≤ 1024
 
+-- what the records of a kind ask of them: HD and TH hold the machine record alone
+abbrev pub Suits : Kind → List ℕ → List ℕ → Type 0
+Suits Hd registers memory = Unit {0}
+Suits Th registers memory = Unit {0}
+Suits Sr registers memory = Lengths registers memory
+Suits Vr registers memory = Lengths registers memory
+Suits Mm registers memory = Lengths registers memory
+
 -- Writing.
 
 -- "status, reason, id, count (0 where not carried)"

@@ -32,6 +32,10 @@ kindAt q = getD (Hd ∷ Th ∷ Sr ∷ Vr ∷ Mm ∷ []) q Hd
 abbrev pub kinds : ℕ
 kinds = 5
 
+-- the first of them, HD and TH, hold the machine record
+abbrev pub recordKinds : ℕ
+recordKinds = 2
+
 abbrev pub orderOf : Kind → ℕ
 orderOf Hd = 0
 orderOf Th = 1
@@ -113,6 +117,10 @@ standsAt (x ∷ h) l p = eqb (getD l p 0) x && standsAt h l (p + 1)
 unfoldable pub headsOf : Row → List ℕ → ℕ → Bool
 headsOf r l at = allBelow (r .count) (λ i. standsAt (headOf r i) l (recordAt r at i))
 
+-- of the first n kinds,
+abbrev pub headsUpTo : ℕ → Shape → List ℕ → Bool
+headsUpTo n s l = allBelow n (λ q. headsOf (rowOf s (kindAt q)) l (startOf s q))
+
 -- and of the whole image
 unfoldable pub headsIn : Shape → List ℕ → Bool
-headsIn s l = allBelow kinds (λ q. headsOf (rowOf s (kindAt q)) l (startOf s q))
+headsIn s l = headsUpTo kinds s l

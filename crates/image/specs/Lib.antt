@@ -7,4 +7,5 @@ pub mod Image
 pub mod Refusal
 pub mod Answer
 pub mod Calls
+pub mod Opening
 pub mod Claims

@@ -35,9 +35,16 @@ sizesNumber room bytes size = firstThatApplies (sizeChecks room bytes size)
 unfoldable pub writeNumber : ℕ → ℕ → ℕ → Machine → Option ℕ
 writeNumber room bytes size m = firstThatApplies (sizeChecks room bytes size ++ check bad-record (not (wellFormed m)) ∷ [])
 
--- what is checked of the content of an image: 10 over the whole of it before any 4
+-- what is checked of content: 10 over the whole of it before any 4
+abbrev pub contentChecks : Bool → Bool → List Check
+contentChecks heads accepted = check bad-image (not heads) ∷ check bad-record (not accepted) ∷ []
+
+unfoldable pub contentNumber : Bool → Bool → Option ℕ
+contentNumber heads accepted = firstThatApplies (contentChecks heads accepted)
+
+-- of an image
 abbrev pub recordChecks : Shape → List ℕ → List Check
-recordChecks s l = check bad-image (not (headsIn s l)) ∷ check bad-record (not (recordIn s l)) ∷ []
+recordChecks s l = contentChecks (headsIn s l) (recordIn s l)
 
 unfoldable pub recordsNumber : Shape → List ℕ → Option ℕ
 recordsNumber s l = firstThatApplies (recordChecks s l)

@@ -5,6 +5,8 @@ pub use Rattle.image.specs.declared.layout.Places.{Places}
 pub use Rattle.image.specs.declared.layout.Places.the-variants.{Nothing, ByThread, ByRegister, ByBlock}
 pub use Rattle.image.specs.declared.layout.Shape.{Shape}
 pub use Rattle.image.specs.declared.layout.Row.{Row}
+pub use Rattle.image.specs.declared.verdicts.Judgement.{Judgement}
+pub use Rattle.image.specs.declared.entries.Record.{Record}
 pub use Rattle.image.specs.declared.outcome.WriteAnswer.{WriteAnswer}
 pub use Rattle.image.specs.declared.outcome.WriteAnswer.the-variants.{Written, Refused as WriteRefused}
 pub use Rattle.image.specs.declared.outcome.ReadAnswer.{ReadAnswer}

@@ -6,7 +6,7 @@ ghost use Rattle.machine.specs.Answer.{reading};
 ghost use Rattle.machine.specs.Fields.{threadOf};
 ghost use Rattle.image.specs.Image.{fieldsIn, isEntry, entryOr, entryIn, threadsIn, machineIn, recordIn};
 ghost use Rattle.image.specs.Join.{allBelow};
-ghost use Rattle.image.specs.Layout.{kinds, startOf};
+ghost use Rattle.image.specs.Layout.{recordKinds, startOf};
 use crate::layout::Kind;
 use crate::layout::Shape;
 use crate::layout::first_body;
@@ -67,7 +67,7 @@ fn entry_at(image: &[u8], at: usize) -> EntryReading
 
 // The eight entries.
 fn entries_in(shape: Shape, image: &[u8]) -> Entries
-    requires { ⌜ (shape .blocks ≤ 1024) × (startOf shape kinds ≤ length (now image)) ⌝ }
+    requires { ⌜ (shape .blocks ≤ 1024) × (startOf shape recordKinds ≤ length (now image)) ⌝ }
     ensures { λ r. ⌜ (r .read ≡ allBelow 8 (λ t. isEntry (entryIn shape (now (image .entry)) t))) × (r .threads ≡ threadsIn shape (now (image .entry))) ⌝ }
 {
     let row = row_of(shape, Kind::Th);
@@ -88,7 +88,7 @@ fn entries_in(shape: Shape, image: &[u8]) -> Entries
 
 // The machine record.
 pub fn record_in(shape: Shape, image: &[u8]) -> Record
-    requires { ⌜ (shape .blocks ≤ 1024) × (startOf shape kinds ≤ length (now image)) ⌝ }
+    requires { ⌜ (shape .blocks ≤ 1024) × (startOf shape recordKinds ≤ length (now image)) ⌝ }
     ensures { λ r. ⌜ (r .accepted ≡ recordIn shape (now (image .entry))) × (r .machine ≡ machineIn shape (now (image .entry))) ⌝ }
 {
     let at = first_body(shape, Kind::Hd);

@@ -3,8 +3,7 @@ ghost use Prim.Native.Nat.{_+_, _≤_};
 ghost use mathlib.Core.Path.{_≡_};
 ghost use lib.ListN.{length};
 ghost use Rattle.image.specs.Join.{Grown};
-ghost use Rattle.image.specs.Layout.{kinds, placesOf, placesLength, Numbered, headLength, headOf, extentOf, startOf, standsAt, headsOf, headsIn};
-use crate::layout::KINDS;
+ghost use Rattle.image.specs.Layout.{kinds, placesOf, placesLength, Numbered, headLength, headOf, extentOf, startOf, standsAt, headsOf, headsUpTo};
 use crate::layout::Places;
 use crate::layout::Row;
 use crate::layout::Shape;
@@ -89,13 +88,13 @@ fn heads_stand(row: Row, image: &[u8], at: usize) -> bool
     true
 }
 
-// Whether every mark and every place number of the image is right.
-pub fn image_stands(shape: Shape, image: &[u8]) -> bool
-    requires { ⌜ (shape .blocks ≤ 1024) × (startOf shape kinds ≤ length (now image)) ⌝ }
-    ensures { λ r. ⌜ r ≡ headsIn shape (now (image .entry)) ⌝ }
+// Whether every mark and every place number of the first n kinds is right.
+pub fn kinds_stand(shape: Shape, n: usize, image: &[u8]) -> bool
+    requires { ⌜ (shape .blocks ≤ 1024) × (n ≤ kinds) × (startOf shape n ≤ length (now image)) ⌝ }
+    ensures { λ r. ⌜ r ≡ headsUpTo n shape (now (image .entry)) ⌝ }
 {
     let mut at: usize = 0;
-    for position in 0..KINDS {
+    for position in 0..n {
         let kind = kind_at(position);
         let stands = heads_stand(row_of(shape, kind), image, at);
         if !stands {

@@ -37,6 +37,9 @@ pub struct Row {
 // How many kinds there are.
 pub const KINDS: usize = 5;
 
+// The first of them, which hold the machine record.
+pub const RECORD_KINDS: usize = 2;
+
 const ORDER: [Kind; KINDS] = [Kind::Hd, Kind::Th, Kind::Sr, Kind::Vr, Kind::Mm];
 
 // The kind at a position.

@@ -3,13 +3,18 @@ mod bytes;
 mod entries;
 mod heads;
 mod layout;
+mod opening;
 mod outcome;
 mod reading;
 mod verdicts;
 mod writing;
 
+pub use opening::read_record;
+pub use opening::write_record;
 pub use outcome::Read;
 pub use outcome::ReadAnswer;
 pub use outcome::WriteAnswer;
 pub use reading::read;
+pub use verdicts::Judgement;
+pub use verdicts::sizes_verdict;
 pub use writing::write;

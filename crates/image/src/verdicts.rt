@@ -7,9 +7,11 @@ ghost use Rattle.answer.specs.Refusal.{numbered, refusedOr};
 ghost use Rattle.machine.specs.Machine.{zeroed};
 ghost use Rattle.image.specs.Image.{machineIn};
 ghost use Rattle.image.specs.Layout.{ofBlocks, kinds, startOf};
-ghost use Rattle.image.specs.Refusal.{badLength, sizesNumber, recordsNumber, readNumber};
+ghost use Rattle.image.specs.Refusal.{badLength, sizesNumber, contentNumber, recordsNumber, readNumber};
+use crate::entries::Record;
 use crate::entries::record_in;
-use crate::heads::image_stands;
+use crate::heads::kinds_stand;
+use crate::layout::KINDS;
 use crate::layout::Shape;
 use answer::Verdict;
 use answer::bad_memory;
@@ -59,15 +61,12 @@ fn refuse(number: u8) -> Judgement
     }
 }
 
-// The verdict on what an image of the right length holds.
-fn judge_records(shape: Shape, image: &[u8]) -> Judgement
-    requires { ⌜ (shape .blocks ≤ 1024) × (startOf shape kinds ≤ length (now image)) ⌝ }
-    ensures { λ r. ⌜ (numbered (r .verdict) ≡ recordsNumber shape (now (image .entry))) × (r .machine ≡ refusedOr (recordsNumber shape (now (image .entry))) (λ n. zeroed) (machineIn shape (now (image .entry)))) ⌝ }
+// The verdict by whether marks and place numbers stand, and by the record found.
+pub fn judge_content(stands: bool, found: Record) -> Judgement
+    ensures { λ r. ⌜ (numbered (r .verdict) ≡ contentNumber stands (found .accepted)) × (r .machine ≡ refusedOr (contentNumber stands (found .accepted)) (λ n. zeroed) (found .machine)) ⌝ }
 {
-    let stands = image_stands(shape, image);
-    let record = record_in(shape, image);
-    let machine = record.machine;
-    let accepted = record.accepted;
+    let machine = found.machine;
+    let accepted = found.accepted;
     if !stands {
         return refuse(10);
     }
@@ -78,6 +77,14 @@ fn judge_records(shape: Shape, image: &[u8]) -> Judgement
         verdict: Verdict::Accepted,
         machine,
     }
+}
+
+// The verdict on what an image of the right length holds.
+fn judge_records(shape: Shape, image: &[u8]) -> Judgement
+    requires { ⌜ (shape .blocks ≤ 1024) × (startOf shape kinds ≤ length (now image)) ⌝ }
+    ensures { λ r. ⌜ (numbered (r .verdict) ≡ recordsNumber shape (now (image .entry))) × (r .machine ≡ refusedOr (recordsNumber shape (now (image .entry))) (λ n. zeroed) (machineIn shape (now (image .entry)))) ⌝ }
+{
+    judge_content(kinds_stand(shape, KINDS, image), record_in(shape, image))
 }
 
 // The verdict on an image that is read into a register room of so many words and a memory of so many bytes.

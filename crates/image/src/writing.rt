@@ -4,7 +4,7 @@ ghost use mathlib.Core.Path.{_≡_};
 ghost use lib.ListN.{length};
 ghost use Rattle.execution.specs.State.{state};
 ghost use Rattle.image.specs.Calls.{written, write};
-ghost use Rattle.image.specs.Image.{shapeOf, Lengths, fieldBytes, bodyOf, image};
+ghost use Rattle.image.specs.Image.{shapeOf, Lengths, Suits, fieldBytes, bodyOf, image};
 ghost use Rattle.image.specs.Join.{Grown};
 ghost use Rattle.image.specs.Layout.{rowOf, kinds, recordSize, extentOf, recordOf, sectionOf, startOf};
 use crate::bytes::copy_eights;
@@ -42,7 +42,7 @@ fn put_body(
     buffer: &mut [u8],
     at: usize,
 ) -> usize
-    requires { ⌜ Lengths (now registers) (now memory) × (i < rowOf (shapeOf (now memory)) kind .count) × (at + rowOf (shapeOf (now memory)) kind .size ≤ length (now buffer)) ⌝ }
+    requires { ⌜ Suits kind (now registers) (now memory) × (i < rowOf (shapeOf (now memory)) kind .count) × (at + rowOf (shapeOf (now memory)) kind .size ≤ length (now buffer)) ⌝ }
     ensures { λ r. ⌜ Grown (now (buffer .entry)) (now (buffer .exit)) at r (bodyOf (state machine (now (registers .entry)) (now (memory .entry))) kind i) ⌝ }
 {
     match kind {
@@ -81,7 +81,7 @@ fn put_record(
     buffer: &mut [u8],
     at: usize,
 ) -> usize
-    requires { ⌜ Lengths (now registers) (now memory) × (i < rowOf (shapeOf (now memory)) kind .count) × (at + recordSize (rowOf (shapeOf (now memory)) kind) ≤ length (now buffer)) ⌝ }
+    requires { ⌜ Suits kind (now registers) (now memory) × (i < rowOf (shapeOf (now memory)) kind .count) × (at + recordSize (rowOf (shapeOf (now memory)) kind) ≤ length (now buffer)) ⌝ }
     ensures { λ r. ⌜ Grown (now (buffer .entry)) (now (buffer .exit)) at r (recordOf (rowOf (shapeOf (now (memory .entry))) kind) (bodyOf (state machine (now (registers .entry)) (now (memory .entry))) kind) i) ⌝ }
 {
     let shape = Shape {
@@ -93,7 +93,7 @@ fn put_record(
 }
 
 // Every record of a kind stored from a place on; the next place.
-fn put_section(
+pub fn put_section(
     kind: Kind,
     registers: &[u32],
     memory: &[u8],
@@ -101,7 +101,7 @@ fn put_section(
     buffer: &mut [u8],
     at: usize,
 ) -> usize
-    requires { ⌜ Lengths (now registers) (now memory) × (at + extentOf (rowOf (shapeOf (now memory)) kind) ≤ length (now buffer)) ⌝ }
+    requires { ⌜ Suits kind (now registers) (now memory) × (at + extentOf (rowOf (shapeOf (now memory)) kind) ≤ length (now buffer)) ⌝ }
     ensures { λ r. ⌜ Grown (now (buffer .entry)) (now (buffer .exit)) at r (sectionOf (rowOf (shapeOf (now (memory .entry))) kind) (bodyOf (state machine (now (registers .entry)) (now (memory .entry))) kind)) ⌝ }
 {
     let shape = Shape {

@@ -10,3 +10,4 @@ pub mod Signed
 pub mod Formats
 pub mod RoundTrip
 pub mod Ranges
+pub mod Numbering

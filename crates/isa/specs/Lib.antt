@@ -10,4 +10,5 @@ pub mod Rule
 pub mod Read
 pub mod Write
 pub mod Name
+pub mod Numbers
 pub mod Claims

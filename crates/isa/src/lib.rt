@@ -1,7 +1,8 @@
-// Instruction words of the house core: read into instructions, written from them, and named (document 01, "The words").
+// Instruction words of the house core: read into instructions, written from them, named, and held as numbers (document 01, "The words").
 mod field;
 mod instruction;
 mod name;
+mod numbers;
 mod opcode;
 mod pack;
 mod read;
@@ -23,5 +24,9 @@ pub use instruction::UnaryOp;
 pub use instruction::Writing;
 pub use name::Name;
 pub use name::name_of;
+pub use numbers::Naming;
+pub use numbers::Numbers;
+pub use numbers::numbers_of;
+pub use numbers::of_numbers;
 pub use read::read_word;
 pub use write::write_word;

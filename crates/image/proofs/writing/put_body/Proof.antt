@@ -28,7 +28,7 @@ mul-put-words : tie.Need-mul-put-words
 mul-put-words c = let h = rw (c .enum-told3 .given .1) at (c .before .before .before .before .before .pre .1) in omega (arith, h)
 
 put-words-requires : tie.Need-put-words-requires
-put-words-requires c κs = let h = rw (c .before .enum-told3 .given .1) at (c .before .before .before .before .before .before .pre .1) in let g = rw (c .before .enum-told3 .given .1) at (c .before .before .before .before .before .before .pre .2) in (omega (arith, h, c .before .before .before .before .before .before .pre .0 .room), omega (arith, g))
+put-words-requires c κs = let h = rw (c .before .enum-told3 .given .1) at (c .before .before .before .before .before .before .pre .1) in let g = rw (c .before .enum-told3 .given .1) at (c .before .before .before .before .before .before .pre .2) in let w = rw (c .before .enum-told3 .given .1) at (c .before .before .before .before .before .before .pre .0) in (omega (arith, h, w .room), omega (arith, g))
 
 mul-put-words-2 : tie.Need-mul-put-words-2
 mul-put-words-2 c = let h = rw (c .enum-told4 .given .1) at (c .before .before .before .before .before .pre .1) in omega (arith, h)
@@ -37,13 +37,13 @@ add-put-words : tie.Need-add-put-words
 add-put-words c = let h = rw (c .enum-told4 .given .1) at (c .before .before .before .before .before .pre .1) in omega (arith, h)
 
 put-words-requires-2 : tie.Need-put-words-requires-2
-put-words-requires-2 c κs = let h = rw (c .before .enum-told4 .given .1) at (c .before .before .before .before .before .before .pre .1) in let g = rw (c .before .enum-told4 .given .1) at (c .before .before .before .before .before .before .pre .2) in (omega (arith, h, c .before .before .before .before .before .before .pre .0 .room), omega (arith, g))
+put-words-requires-2 c κs = let h = rw (c .before .enum-told4 .given .1) at (c .before .before .before .before .before .before .pre .1) in let g = rw (c .before .enum-told4 .given .1) at (c .before .before .before .before .before .before .pre .2) in let w = rw (c .before .enum-told4 .given .1) at (c .before .before .before .before .before .before .pre .0) in (omega (arith, h, w .room), omega (arith, g))
 
 mul-copy-eights : tie.Need-mul-copy-eights
-mul-copy-eights c = let h = rw (c .enum-told5 .given .1) at (c .before .before .before .before .before .pre .1) in omega (arith, h, c .before .before .before .before .before .pre .0 .few)
+mul-copy-eights c = let h = rw (c .enum-told5 .given .1) at (c .before .before .before .before .before .pre .1) in let w = rw (c .enum-told5 .given .1) at (c .before .before .before .before .before .pre .0) in omega (arith, h, w .few)
 
 copy-eights-requires : tie.Need-copy-eights-requires
-copy-eights-requires c κs = let h = rw (c .before .enum-told5 .given .1) at (c .before .before .before .before .before .before .pre .1) in let g = rw (c .before .enum-told5 .given .1) at (c .before .before .before .before .before .before .pre .2) in (omega (arith, h, c .before .before .before .before .before .before .pre .0 .whole), omega (arith, g))
+copy-eights-requires c κs = let h = rw (c .before .enum-told5 .given .1) at (c .before .before .before .before .before .before .pre .1) in let g = rw (c .before .enum-told5 .given .1) at (c .before .before .before .before .before .before .pre .2) in let w = rw (c .before .enum-told5 .given .1) at (c .before .before .before .before .before .before .pre .0) in (omega (arith, h, w .whole), omega (arith, g))
 
 returns : tie.Need-returns
 returns c = let h = rw (c .enum-told .given .1) at (c .before .before .before .before .before .pre .2) in rw (c .enum-told .given .1) (grown-two (c .before .before .before .before .before .args .buffer .now) (c .before .before .before .before .before .args .at) _ _ h)

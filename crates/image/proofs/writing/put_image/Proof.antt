@@ -4,9 +4,9 @@ use mathlib.Core.Path.{ap, _∙_}
 use Rattle.execution.specs.State.{State, state}
 use Rattle.image.specs.Image.{shapeOf, bodyOf, image}
 use Rattle.image.specs.Join.{joined, Grown}
-use Rattle.image.specs.Layout.{kinds, rowOf, sectionOf, laidOut}
+use Rattle.image.specs.Layout.{kinds, kindAt, rowOf, sectionOf, laidOut}
 use Rattle.image.proofs.Join.{grown-start, grown-join, grown-end, grown-new, grown-whole}
-use Rattle.image.proofs.Rows.{body-length, sectionAt, sections-length, start-room}
+use Rattle.image.proofs.Rows.{body-length, sectionAt, sections-length, start-room, suits}
 use native.Mathlib.Omega.{arith}
 use borrow.Author.Needs.{needs}
 use Rattle.image.proofs.writing.put_image.Statement.{statement}
@@ -25,7 +25,7 @@ put-section-requires c κs =
     let w = shapeOf (a .memory .now) in
     let l = c .before .before .before .loop in
     let g = l .inv .1 in
-    rw (c .before .kind-at .ensures) (c .before .before .before .before .before .before .before .pre .0, omega (arith, g .next, g .size, sections-length w (bodyOf s) (body-length s (c .before .before .before .before .before .before .before .pre .0)) (l .position), start-room w (l .position) (c .before .before .loop-test .taken), c .before .before .before .before .before .before .before .pre .1))
+    rw (c .before .kind-at .ensures) (suits (a .registers .now) (a .memory .now) (c .before .before .before .before .before .before .before .pre .0) (kindAt (l .position)), omega (arith, g .next, g .size, sections-length w (bodyOf s) (body-length s (c .before .before .before .before .before .before .before .pre .0)) (l .position), start-room w (l .position) kinds (c .before .before .loop-test .taken), c .before .before .before .before .before .before .before .pre .1))
 
 loop-again : tie.Need-loop-again Inv-loop μ-loop
 loop-again c =

@@ -12,7 +12,7 @@ use Rattle.image.proofs.writing.put_record.Tie as tie
 put-head-requires : tie.Need-put-head-requires
 put-head-requires c κs =
     let a = c .before .before .before .before .before .args in
-    rw (c .before .row-of .ensures) (numbered (shapeOf (a .memory .now)) (a .kind) (a .i) (c .before .before .before .before .before .pre .0 .few) (c .before .before .before .before .before .pre .1), omega (arith, c .before .before .before .before .before .pre .2))
+    rw (c .before .row-of .ensures) (numbered (a .registers .now) (a .memory .now) (a .kind) (a .i) (c .before .before .before .before .before .pre .0) (c .before .before .before .before .before .pre .1), omega (arith, c .before .before .before .before .before .pre .2))
 
 put-body-requires : tie.Need-put-body-requires
 put-body-requires c κs =

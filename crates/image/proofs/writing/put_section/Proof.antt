@@ -6,7 +6,7 @@ use Rattle.image.specs.Image.{shapeOf, bodyOf}
 use Rattle.image.specs.Join.{joined, Grown}
 use Rattle.image.specs.Layout.{rowOf, recordSize, recordOf, sectionOf}
 use Rattle.image.proofs.Join.{grown-start, grown-join, grown-end, room-for}
-use Rattle.image.proofs.Rows.{body-length, record-length}
+use Rattle.image.proofs.Rows.{body-length-of, record-length}
 use native.Mathlib.Omega.{arith}
 use borrow.Author.Needs.{needs}
 use Rattle.image.proofs.writing.put_section.Statement.{statement}
@@ -29,7 +29,7 @@ put-record-requires c κs =
     let e : c .before .before .before .row-of .result .count ≡ r .count = ap (λ x. x .count) (c .before .before .before .row-of .ensures) in
     let l = c .before .before .loop in
     let t : l .i < r .count = omega (arith, c .before .loop-test .taken) in
-    (c .before .before .before .before .before .before .before .pre .0, t, room-for (recordSize r) (l .i) (r .count) (recordOf r (bodyOf s (a .kind))) (l .inv .1) (record-length r (bodyOf s (a .kind)) (body-length s (c .before .before .before .before .before .before .before .pre .0) (a .kind))) t (c .before .before .before .before .before .before .before .pre .1))
+    (c .before .before .before .before .before .before .before .pre .0, t, room-for (recordSize r) (l .i) (r .count) (recordOf r (bodyOf s (a .kind))) (l .inv .1) (record-length r (bodyOf s (a .kind)) (body-length-of s (a .kind) (c .before .before .before .before .before .before .before .pre .0))) t (c .before .before .before .before .before .before .before .pre .1))
 
 loop-again : tie.Need-loop-again Inv-loop μ-loop
 loop-again c =

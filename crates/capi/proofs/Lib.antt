@@ -1,0 +1,3 @@
+-- The laws that several proofs cite.
+mod Handed
+mod Verdicts

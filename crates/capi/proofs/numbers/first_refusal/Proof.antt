@@ -1,0 +1,13 @@
+-- `first_refusal` meets its contract: by the first verdict.
+use borrow.Author.Needs.{needs}
+use Rattle.capi.proofs.numbers.first_refusal.Statement.{statement}
+use Rattle.capi.proofs.numbers.first_refusal.Tie as tie
+
+pub first-refusal-spec : {M : Type 1} → statement M
+first-refusal-spec =
+    tie.close
+    (tie.spec
+    (λ c. search needs)
+    (λ c. search needs)
+    (λ c. search needs)
+    (λ c. rw (c .before .first .given .1)))

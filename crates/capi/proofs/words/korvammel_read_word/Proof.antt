@@ -1,0 +1,22 @@
+-- `korvammel_read_word` meets its contract: by what the word is read as.
+use mathlib.Core.Path.{ap, _∙_}
+use Rattle.capi.specs.Answer.{left}
+use Rattle.capi.specs.Words.{listOf, readWord}
+use borrow.Author.Needs.{needs}
+use Rattle.capi.proofs.words.korvammel_read_word.Statement.{statement}
+use Rattle.capi.proofs.words.korvammel_read_word.Tie as tie
+
+pub korvammel-read-word-spec : {M : Type 1} → statement M
+unfolding readWord
+korvammel-read-word-spec =
+    tie.close
+    (tie.spec
+    (λ c κs. search needs)
+    (λ c. search needs)
+    (λ c κs. search needs)
+    (λ c κs. search needs)
+    (λ c. search needs)
+    (λ c. search needs)
+    (λ c. rw (← c .before .before .before .before .before .before .read-word .ensures, c .before .before .before .before .reading .given .1) (ap (left 0) (c .put-numbers .ensures ∙ ap listOf (c .before .before .numbers-of .ensures))))
+    (λ c. rw (← c .before .before .read-word .ensures, c .enum-told .given .1))
+    (λ c. rw (← c .before .before .read-word .ensures, c .enum-told2 .given .1)))

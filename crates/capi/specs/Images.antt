@@ -1,0 +1,34 @@
+-- The saved image written and read, with the machine record as bytes.
+use Prim.Native.Nat.{ℕ}
+use mathlib.Core.List.{List}
+use Rattle.answer.specs.Refusal.{refusedOr}
+use Rattle.execution.specs.State.{state}
+use Rattle.image.specs.Calls.{Reading, read}
+use Rattle.image.specs.Image.{image, machineIn}
+use Rattle.image.specs.Opening.{noBlocks, recordBytes}
+use Rattle.capi.specs.Answer.{Left, left, numberOf}
+use Rattle.capi.specs.Refusal.{writeNumber}
+
+-- the buffer that the writing of an image leaves
+unfoldable pub writeCall : List ℕ → List ℕ → List ℕ → List ℕ → Left (List ℕ)
+writeCall registers memory opening buffer =
+    refusedOr (writeNumber registers memory opening buffer)
+    (λ number. left number buffer)
+    (left 0 (image (state (machineIn noBlocks opening) registers memory)))
+
+-- what the reading of an image answers and leaves
+pub record Restored : Type 0 where
+  pub answer : ℕ
+  pub registers : List ℕ
+  pub memory : List ℕ
+  pub opening : List ℕ
+
+abbrev pub restored : ℕ → List ℕ → List ℕ → List ℕ → Restored
+restored answer registers memory opening = record { answer = answer; registers = registers; memory = memory; opening = opening }
+
+-- "start and image reading, which get none, hand back a record with every number 0"
+abbrev pub restoring : Reading → Restored
+restoring r = restored (numberOf (r .answer)) (r .left .registers) (r .left .memory) (recordBytes (r .left .machine))
+
+unfoldable pub readCall : List ℕ → List ℕ → List ℕ → Restored
+readCall l registers memory = restoring (read l registers memory)

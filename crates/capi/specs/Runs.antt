@@ -1,0 +1,49 @@
+-- A start and a run, with the machine record as bytes.
+use Prim.Native.Nat.{ℕ}
+use mathlib.Core.List.{List, [], _∷_}
+use Rattle.answer.specs.Refusal.{refusedOr}
+use Rattle.execution.specs.State.{state}
+use Rattle.image.specs.Image.{machineIn}
+use Rattle.image.specs.Opening.{noBlocks, recordBytes}
+use Rattle.interpreter.specs.Run.{Outcome, run}
+use Rattle.interpreter.specs.Start.{Beginning, start}
+use Rattle.capi.specs.Answer.{numberOf, endingOf}
+use Rattle.capi.specs.Refusal.{runNumber}
+
+-- what a start answers and leaves: the register room, and the bytes of the record
+pub record Begun : Type 0 where
+  pub answer : ℕ
+  pub registers : List ℕ
+  pub opening : List ℕ
+
+abbrev pub begun : ℕ → List ℕ → List ℕ → Begun
+begun answer registers opening = record { answer = answer; registers = registers; opening = opening }
+
+-- "start and image reading, which get none, hand back a record with every number 0"
+abbrev pub beginning : Beginning → Begun
+beginning b = begun (numberOf (b .answer)) (b .registers) (recordBytes (b .machine))
+
+unfoldable pub startCall : ℕ → List ℕ → Begun
+startCall mask registers = beginning (start mask registers)
+
+-- what a run answers and leaves: how it ended and its issues, the register room, the memory, and the bytes of the record
+pub record Ran : Type 0 where
+  pub answer : ℕ
+  pub result : List ℕ
+  pub registers : List ℕ
+  pub memory : List ℕ
+  pub opening : List ℕ
+
+abbrev pub ran : ℕ → List ℕ → List ℕ → List ℕ → List ℕ → Ran
+ran answer result registers memory opening =
+    record { answer = answer; result = result; registers = registers; memory = memory; opening = opening }
+
+abbrev pub done : Outcome → Ran
+done o = ran 0 (endingOf (o .answer) ∷ o .issues ∷ []) (o .left .registers) (o .left .memory) (recordBytes (o .left .machine))
+
+-- "A refusal changes no lent buffer and hands back the record it got"; "A refused run reports 0 issues"
+unfoldable pub runCall : List ℕ → ℕ → List ℕ → List ℕ → List ℕ → Ran
+runCall program budget registers memory opening =
+    refusedOr (runNumber program registers memory opening)
+    (λ number. ran number (0 ∷ 0 ∷ []) registers memory opening)
+    (done (run program budget (state (machineIn noBlocks opening) registers memory)))

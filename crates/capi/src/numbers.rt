@@ -1,0 +1,57 @@
+// Answers as the numbers that the calls give back: 0, or a number of document 01's table.
+ghost use mathlib.Core.Option.{some};
+ghost use mathlib.Core.Path.{_≡_};
+ghost use Rattle.answer.specs.Refusal.{numbered, refusedOr};
+ghost use Rattle.image.specs.Answer.{readAnswered};
+ghost use Rattle.interpreter.specs.Answer.{startAnswered, answered};
+ghost use Rattle.capi.specs.Answer.{numberOf, endingOf};
+use answer::Verdict;
+use image::ReadAnswer;
+use interpreter::RunAnswer;
+use interpreter::StartAnswer;
+
+pub fn wide(n: u8) -> u32
+    ensures { λ r. ⌜ r ≡ n ⌝ }
+{
+    n as u32
+}
+
+// The first of two verdicts that refuses.
+pub fn first_refusal(first: Verdict, then: Verdict) -> Verdict
+    ensures { λ r. ⌜ numbered r ≡ refusedOr (numbered first) some (numbered then) ⌝ }
+{
+    match first {
+        Verdict::Accepted => then,
+        Verdict::Refused(number) => Verdict::Refused(number),
+    }
+}
+
+pub fn start_number(answer: StartAnswer) -> u32
+    ensures { λ r. ⌜ r ≡ numberOf (startAnswered answer) ⌝ }
+{
+    match answer {
+        StartAnswer::Started => 0,
+        StartAnswer::Refused(number) => wide(number),
+    }
+}
+
+pub fn read_number(answer: ReadAnswer) -> u32
+    ensures { λ r. ⌜ r ≡ numberOf (readAnswered answer) ⌝ }
+{
+    match answer {
+        ReadAnswer::Restored => 0,
+        ReadAnswer::Refused(number) => wide(number),
+    }
+}
+
+// How a run ended.
+pub fn ending(answer: RunAnswer) -> u32
+    ensures { λ r. ⌜ r ≡ endingOf (answered answer) ⌝ }
+{
+    match answer {
+        RunAnswer::Refused(_) => 0,
+        RunAnswer::Stopped => 1,
+        RunAnswer::Stuck => 2,
+        RunAnswer::Spent => 3,
+    }
+}

@@ -1,0 +1,79 @@
+// A start and a run.
+ghost use mathlib.Core.Path.{_≡_};
+ghost use lib.ListN.{length};
+ghost use Rattle.answer.specs.Refusal.{numbered};
+ghost use Rattle.capi.specs.Refusal.{lengthsNumber};
+ghost use Rattle.capi.specs.Runs.{begun, startCall, ran, runCall};
+use crate::numbers::ending;
+use crate::numbers::first_refusal;
+use crate::numbers::start_number;
+use crate::numbers::wide;
+use answer::Verdict;
+use answer::bad_memory;
+use answer::bad_program;
+use answer::bad_registers;
+
+// Starts the threads of a mask, and writes the machine record.
+#[no_mangle]
+pub extern "C" fn korvammel_start(mask: u32, registers: &mut [u32], bytes: &mut [u8; 60]) -> u32
+    ensures { λ r. ⌜ begun r (now (registers .exit)) (now (bytes .exit)) ≡ startCall mask (now (registers .entry)) ⌝ }
+{
+    let start = interpreter::start(mask, registers);
+    let answer = start.answer;
+    let machine = start.machine;
+    image::write_record(machine, bytes);
+    start_number(answer)
+}
+
+// Of the words of a program and of a register room, and the bytes of a memory.
+fn lengths_verdict(words: usize, room: usize, bytes: usize) -> Verdict
+    ensures { λ r. ⌜ numbered r ≡ lengthsNumber words room bytes ⌝ }
+{
+    let wrong_program = bad_program(words);
+    let wrong_room = bad_registers(room);
+    let wrong_memory = bad_memory(bytes);
+    if wrong_program {
+        return Verdict::Refused(1);
+    }
+    if wrong_room {
+        return Verdict::Refused(2);
+    }
+    if wrong_memory {
+        return Verdict::Refused(3);
+    }
+    Verdict::Accepted
+}
+
+// Runs a program, from the machine record and into it.
+#[no_mangle]
+pub extern "C" fn korvammel_run(
+    program: &[u32],
+    registers: &mut [u32],
+    memory: &mut [u8],
+    bytes: &mut [u8; 60],
+    budget: u32,
+    result: &mut [u32; 2],
+) -> u32
+    ensures { λ r. ⌜ ran r (now (result .exit)) (now (registers .exit)) (now (memory .exit)) (now (bytes .exit)) ≡ runCall (now (program .entry)) budget (now (registers .entry)) (now (memory .entry)) (now (bytes .entry)) ⌝ }
+{
+    let lengths = lengths_verdict(program.len(), registers.len(), memory.len());
+    let opening = image::read_record(bytes);
+    let content = opening.verdict;
+    let machine = opening.machine;
+    let verdict = first_refusal(lengths, content);
+    match verdict {
+        Verdict::Refused(number) => {
+            *result = [0, 0];
+            wide(number)
+        }
+        Verdict::Accepted => {
+            let run = interpreter::run(program, registers, memory, machine, budget);
+            let answer = run.answer;
+            let issues = run.issues;
+            let reached = run.machine;
+            image::write_record(reached, bytes);
+            *result = [ending(answer), issues];
+            0
+        }
+    }
+}

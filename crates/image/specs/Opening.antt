@@ -1,0 +1,38 @@
+-- The machine record alone, in the bytes that an image opens with: HD, and eight TH (document 01, "Saved image").
+use Prim.Native.Nat.{ℕ}
+use mathlib.Core.List.{List, []}
+use mathlib.Core.Option.{Option}
+use Rattle.answer.specs.Refusal.{Check, firstThatApplies, numbered, refusedOr}
+use Rattle.execution.specs.State.{state}
+use Rattle.machine.specs.Machine.{zeroed}
+use Rattle.image.specs.Image.{bodyOf, machineIn, recordIn}
+use Rattle.image.specs.Join.{joined}
+use Rattle.image.specs.Layout.{ofBlocks, kindAt, recordKinds, rowOf, sectionOf, headsUpTo}
+use Rattle.image.specs.Refusal.{contentChecks}
+use Rattle.image.specs.Types.{Shape, Machine, Judgement}
+
+-- HD and TH are the same for every memory
+abbrev pub noBlocks : Shape
+noBlocks = ofBlocks 0
+
+-- the bytes of a machine record
+unfoldable pub recordBytes : Machine → List ℕ
+recordBytes m = joined recordKinds (λ q. sectionOf (rowOf noBlocks (kindAt q)) (bodyOf (state m [] []) (kindAt q)))
+
+-- what is checked of such bytes: as of the image that opens with them
+abbrev pub openingChecks : List ℕ → List Check
+openingChecks l = contentChecks (headsUpTo recordKinds noBlocks l) (recordIn noBlocks l)
+
+unfoldable pub openingNumber : List ℕ → Option ℕ
+openingNumber l = firstThatApplies (openingChecks l)
+
+-- the number that the table gives such bytes, and the record: with every number 0 where there is one
+pub record Opening : Type 0 where
+  pub number : Option ℕ
+  pub machine : Machine
+
+abbrev pub judged : Judgement → Opening
+judged r = record { number = numbered (r .verdict); machine = r .machine }
+
+unfoldable pub readOpening : List ℕ → Opening
+readOpening l = record { number = openingNumber l; machine = refusedOr (openingNumber l) (λ n. zeroed) (machineIn noBlocks l) }

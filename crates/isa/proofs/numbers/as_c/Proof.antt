@@ -1,0 +1,20 @@
+-- `as_c` meets its contract: by what the opcode stands for.
+use borrow.Author.Needs.{needs}
+use Rattle.isa.specs.Numbers.{like, likeC, accepted}
+use Rattle.isa.proofs.numbers.as_c.Statement.{statement}
+use Rattle.isa.proofs.numbers.as_c.Tie as tie
+
+pub as-c-spec : {M : Type 1} → statement M
+unfolding like likeC accepted
+as-c-spec =
+    tie.close
+    (tie.spec
+    (λ c κs. search needs)
+    (λ c κs. search needs)
+    (λ c κs. search needs)
+    (λ c κs. search needs)
+    (λ c. search needs)
+    (λ c κs. search needs)
+    (λ c. search needs)
+    (λ c. rw (← c .before .before .before .before .before .low-byte3 .ensures, ← c .before .before .before .before .of-c .ensures, c .before .before .op .given .1, ← c .before .before .before .before .before .before .before .low-byte .ensures, ← c .before .before .before .before .before .before .low-byte2 .ensures) (c .accept .ensures))
+    (λ c. rw (← c .before .before .before .low-byte3 .ensures, ← c .before .before .of-c .ensures, c .enum-told .given .1)))

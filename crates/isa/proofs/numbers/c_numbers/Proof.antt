@@ -1,0 +1,12 @@
+-- `c_numbers` meets its contract: the opcode is that of the table.
+use borrow.Author.Needs.{needs}
+use Rattle.isa.proofs.numbers.c_numbers.Statement.{statement}
+use Rattle.isa.proofs.numbers.c_numbers.Tie as tie
+
+pub c-numbers-spec : {M : Type 1} → statement M
+c-numbers-spec =
+    tie.close
+    (tie.spec
+    (λ c κs. search needs)
+    (λ c. search needs)
+    (λ c. rw (c .c-opcode .ensures)))

@@ -1,0 +1,12 @@
+-- `j_numbers` meets its contract: the opcode is that of the table.
+use borrow.Author.Needs.{needs}
+use Rattle.isa.proofs.numbers.j_numbers.Statement.{statement}
+use Rattle.isa.proofs.numbers.j_numbers.Tie as tie
+
+pub j-numbers-spec : {M : Type 1} → statement M
+j-numbers-spec =
+    tie.close
+    (tie.spec
+    (λ c κs. search needs)
+    (λ c. search needs)
+    (λ c. rw (c .j-opcode .ensures)))

@@ -1,0 +1,12 @@
+-- `movei_numbers` meets its contract: the opcode is that of the table.
+use borrow.Author.Needs.{needs}
+use Rattle.isa.proofs.numbers.movei_numbers.Statement.{statement}
+use Rattle.isa.proofs.numbers.movei_numbers.Tie as tie
+
+pub movei-numbers-spec : {M : Type 1} → statement M
+movei-numbers-spec =
+    tie.close
+    (tie.spec
+    (λ c κs. search needs)
+    (λ c. search needs)
+    (λ c. rw (c .movei-opcode .ensures)))

@@ -1,0 +1,12 @@
+-- `r_numbers` meets its contract: the opcode is that of the table.
+use borrow.Author.Needs.{needs}
+use Rattle.isa.proofs.numbers.r_numbers.Statement.{statement}
+use Rattle.isa.proofs.numbers.r_numbers.Tie as tie
+
+pub r-numbers-spec : {M : Type 1} → statement M
+r-numbers-spec =
+    tie.close
+    (tie.spec
+    (λ c κs. search needs)
+    (λ c. search needs)
+    (λ c. rw (c .r-opcode .ensures)))
