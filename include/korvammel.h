@@ -1,7 +1,11 @@
 /* Korvammel for a board: the old pavement-heating core, run by proved code.
  *
- * Every function takes numbers and lent arrays, uses no heap, always ends, and answers 0 or a number of this table. Where it
- * answers a number of the table, every lent array holds what it held before, except where the function says otherwise.
+ * Every function takes numbers and lent arrays, uses no heap, keeps nothing between calls, always ends, and answers 0 or a number of
+ * this table. Where it answers a number of the table, every lent array holds what it held before, except where the function says
+ * otherwise. (korvammel_name answers a length.)
+ *
+ * A pointer is never null, and is aligned for its type. It points to an array of the length that stands beside it, or of the length
+ * in brackets. An array that a call writes shares no byte with another that the call takes.
  *
  *    1  the program has 0 or more than 16,384 words
  *    2  the register room is not 8,704 words
@@ -29,7 +33,7 @@ extern "C" {
 /* Words of the register room: thread t (0..7), scalar i at 64t+i; vector i, lane j at 512+1024t+16i+j. */
 #define KORVAMMEL_REGISTERS 8704
 
-/* Bytes of a machine record: as the image begins, "HD", last, enabled, and then for each of the eight threads "TH", thread, status,
+/* Bytes of a machine record: as an image begins, "HD", last, enabled, and then for each of the eight threads "TH", thread, status,
  * reason, id, count. Status: 0 idle, 1 running, 2 ended, 3 trapped (with a reason), 4 waiting (with a barrier id and a count). */
 #define KORVAMMEL_RECORD 60
 
@@ -46,17 +50,19 @@ extern "C" {
  * A signed number is held modulo 2^32: -1 is 0xFFFFFFFF. */
 #define KORVAMMEL_INSTRUCTION 6
 
-/* Reads a word into an instruction. Answers 0, 7 or 8. */
+/* Reads a word into the six numbers of its instruction. Answers 0, 7 or 8. */
 uint32_t korvammel_read_word(uint32_t word, uint32_t instruction[KORVAMMEL_INSTRUCTION]);
 
-/* Writes an instruction into a word. Answers 0 or 6. */
-uint32_t korvammel_write_word(const uint32_t instruction[KORVAMMEL_INSTRUCTION], uint32_t word[1]);
+/* Writes the word of an instruction. Answers 0 or 6: also where the numbers name no instruction, because a number is too large for
+ * its field, no line of that format has the opcode, or a number that the format does not use is not 0. */
+uint32_t korvammel_write_word(const uint32_t instruction[KORVAMMEL_INSTRUCTION], uint32_t *word);
 
-/* Puts an instruction's name, at most 8 bytes and zeros behind it, and answers its length; 0 where no line has its opcode. */
+/* Puts an instruction's name, in ASCII with zeros behind it, and answers its length, 2 to 8. Whether the instruction has a word does
+ * not matter. Where the numbers name no instruction it answers 0 and leaves `name`. */
 size_t korvammel_name(const uint32_t instruction[KORVAMMEL_INSTRUCTION], uint8_t name[8]);
 
-/* Starts the threads of a mask: clears the registers, sets every s59 to 0xFFFF, and writes the record. Answers 0, 2 or 5; where it
- * answers 2 or 5 it writes a record with every number 0, and leaves the registers. */
+/* Starts the threads of a mask, bit t for thread t: clears the registers, sets every s59 to 0xFFFF, and writes the record. Answers 0,
+ * 2 or 5; where it answers 2 or 5 it writes a record with every number 0, and leaves the registers. */
 uint32_t korvammel_start(uint32_t mask, uint32_t *registers, size_t registers_length, uint8_t record[KORVAMMEL_RECORD]);
 
 /* How a run ended. */
@@ -67,11 +73,11 @@ uint32_t korvammel_start(uint32_t mask, uint32_t *registers, size_t registers_le
 
 /* Runs a program until it is stopped, stuck or spent. Leaves the registers, the memory and the record as the issues made them, and
  * puts how it ended and the number of issues made into `result`. Answers 0, 1, 2, 3, 10 or 4; where it answers a number of the
- * table, `result` becomes 0, 0. */
+ * table, `result` becomes 0, 0 (refused, no issue), and all else is left. */
 uint32_t korvammel_run(const uint32_t *program, size_t program_length, uint32_t *registers, size_t registers_length, uint8_t *memory,
                        size_t memory_length, uint8_t record[KORVAMMEL_RECORD], uint32_t budget, uint32_t result[2]);
 
-/* Writes a machine's image. Answers 0, 2, 3, 9, 10 or 4. */
+/* Writes a machine's image: every byte of it. Answers 0, 2, 3, 9, 10 or 4. */
 uint32_t korvammel_image_write(const uint32_t *registers, size_t registers_length, const uint8_t *memory, size_t memory_length,
                                const uint8_t record[KORVAMMEL_RECORD], uint8_t *image, size_t image_length);
 

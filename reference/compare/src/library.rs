@@ -47,11 +47,16 @@ pub fn write_word(instruction: &[u32; 6], word: &mut u32) -> u32 {
     unsafe { korvammel_write_word(instruction.as_ptr(), word) }
 }
 
-pub fn name(instruction: &[u32; 6]) -> Vec<u8> {
+/// The name, and nothing where the numbers name no instruction: the bytes then stay.
+pub fn name(instruction: &[u32; 6]) -> Option<Vec<u8>> {
     let mut bytes = [1; 8];
     let length = unsafe { korvammel_name(instruction.as_ptr(), bytes.as_mut_ptr()) };
+    if length == 0 {
+        assert_eq!(bytes, [1; 8]);
+        return None;
+    }
     assert!(bytes[length..].iter().all(|b| *b == 0));
-    bytes[..length].to_vec()
+    Some(bytes[..length].to_vec())
 }
 
 pub fn start(mask: u32, registers: &mut [u32], record: &mut [u8; 60]) -> u32 {

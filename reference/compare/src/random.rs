@@ -134,7 +134,39 @@ impl Random {
 
     pub fn program(&mut self) -> Vec<u32> {
         let words = if self.one_in(50) { 1 + self.below(16384) } else { 1 + self.below(40) };
-        (0..words).map(|at| self.instruction_word(words, at)).collect()
+        let mut program: Vec<u32> = (0..words).map(|at| self.instruction_word(words, at)).collect();
+        for _ in 0..self.below(3) {
+            let part = self.part();
+            if part.len() <= program.len() {
+                let at = self.below((program.len() - part.len() + 1) as u64) as usize;
+                program[at..at + part.len()].copy_from_slice(&part);
+            }
+        }
+        program
+    }
+
+    /// Words that belong together: a barrier, where counts agree or go by the thread; a mask; a shuffle onto its own operands.
+    fn part(&mut self) -> Vec<u32> {
+        let movei = |d, immediate| Instruction::Movei { opcode: 2, flag: 0, d, immediate };
+        let part = match self.below(3) {
+            0 => {
+                let count = if self.one_in(3) {
+                    Instruction::C { opcode: 1, first: 2, second: 3 }
+                } else {
+                    movei(2, self.of(&[0, 1, 1, 2, 3, 7, 8]))
+                };
+                let id = self.of(&[0, 1, 31, 32]);
+                vec![movei(3, 2), movei(1, id), count, Instruction::C { opcode: 0, first: 1, second: 2 }]
+            }
+            1 => vec![movei(59, self.below(65536) as u32)],
+            _ => {
+                let d = self.below(3) as u8;
+                let other = self.below(3) as u8;
+                let (a, b) = self.of(&[(d, other), (other, d), (d, d)]);
+                vec![Instruction::R { opcode: 24, flags: 0b111, d, a, b }]
+            }
+        };
+        part.into_iter().map(|i| write(i).expect("a word")).collect()
     }
 
     /// A number such as programs use: small, aligned, an address near the memory's end, or anything.

@@ -1,0 +1,51 @@
+//! Machine records, well formed or not, and their bytes, whole or damaged.
+
+use crate::library::any_status;
+use crate::random::Random;
+use reference::image;
+use reference::machine::{start, Record, Status, ROOM_WORDS};
+
+/// A record with any numbers that its type can hold, or one that a run could reach.
+pub fn any_record(random: &mut Random) -> Record {
+    let mut threads = [Status::Idle; 8];
+    let enabled = random.word() as u8;
+    let count = random.below(10) as u8;
+    for (t, status) in threads.iter_mut().enumerate() {
+        if enabled >> t & 1 == 1 || random.one_in(40) {
+            let kind = random.below(6);
+            let other = random.below(10) as u8;
+            *status = any_status(kind, random.below(if kind == 2 { 8 } else { 3 }) as u8, if random.one_in(6) { other } else { count });
+        }
+    }
+    Record { enabled, last: if random.one_in(20) { random.word() as u8 } else { random.below(8) as u8 }, threads }
+}
+
+/// A record's bytes, half of the time with a few of them changed.
+pub fn damaged(random: &mut Random, mut bytes: [u8; 60]) -> [u8; 60] {
+    if random.one_in(2) {
+        for _ in 0..1 + random.below(3) {
+            let at = random.below(60) as usize;
+            bytes[at] = if random.one_in(2) { random.below(6) as u8 } else { random.word() as u8 };
+        }
+    }
+    bytes
+}
+
+/// What the second program says of a record's bytes: it reads them as those of an image that is right behind them.
+pub struct Verdicts(Vec<u8>);
+
+impl Verdicts {
+    pub fn new() -> Verdicts {
+        let mut room = vec![0; ROOM_WORDS];
+        let record = start(1, &mut room).expect("mask 1");
+        let mut picture = vec![0; image::length(64)];
+        image::write(&room, &[0; 64], &record, &mut picture).expect("an image");
+        Verdicts(picture)
+    }
+
+    pub fn of(&self, bytes: &[u8; 60]) -> Result<Record, u32> {
+        let mut picture = self.0.clone();
+        picture[..60].copy_from_slice(bytes);
+        image::read(&picture, &mut vec![0; ROOM_WORDS], &mut [0; 64]).map_err(|n| n as u32)
+    }
+}
