@@ -1,10 +1,12 @@
 -- How long the parts of a listing can be.
-use Prim.Native.Nat.{ℕ, zero, suc, _-_, _*_, _/_, _%_, _≤_}
+use Prim.Native.Nat.{ℕ, zero, suc, _+_, _-_, _*_, _/_, _%_, _^_, _≤_, _<_}
 use mathlib.Core.Bool.{Bool, true, false, cond}
 use mathlib.Core.List.{List, [], _∷_, _++_}
 use mathlib.Core.Path.{_≡_, refl, _∙_}
 use native.Mathlib.Numerals.{add-one}
+use native.Mathlib.Nat.{pow-suc}
 use native.Mathlib.Omega.{arith}
+use borrow.Author.Tests.{lt-ltb}
 use lib.Dec.{eqb, ltb, lit≤}
 use lib.ListN.{length, take, replicate, length-append}
 use lib.Seq.{take-at}
@@ -15,23 +17,34 @@ use Rattle.isa.specs.Read.{read}
 use Rattle.isa.specs.Text.{bytes, padded}
 use Rattle.isa.specs.declared.instruction.Instruction.{Instruction}
 use Rattle.isa.specs.declared.name.Name.{Name}
-use Rattle.listing.specs.Listing.{labelOf, label, columnsOf, line, lines, header, wordAt}
-use Rattle.listing.specs.Number.{digit, digits, places, decimal}
+use Rattle.listing.specs.Listing.{labelOf, label, columnsOf, line, lines, header, wordAt, wordsTo}
+use Rattle.listing.specs.Number.{decimalIn, decimal}
 
-pub length-digits : (base k n : ℕ) → length (digits base k n) ≡ k
-length-digits base zero n = refl
-length-digits base (suc k) n =
-    length-append (digits base k (n / base)) (digit (n % base) ∷ []) ∙ rw (length-digits base k (n / base)) (add-one k)
-
-pub places-small : (n : ℕ) → places n ≤ 5
-places-small n = go (ltb n 10) (ltb n 100) (ltb n 1000) (ltb n 10000)
+decimal-in-small : (k n : ℕ) → length (decimalIn k n) ≤ k
+decimal-in-small zero n = lit≤ tt
+decimal-in-small (suc k) n = go (decimal-in-small k (n / 10)) (ltb n 10)
   where
-    go : (a b c d : Bool) → cond a 1 (cond b 2 (cond c 3 (cond d 4 5))) ≤ 5
-    go true b c d = lit≤ tt
-    go false true c d = lit≤ tt
-    go false false true d = lit≤ tt
-    go false false false true = lit≤ tt
-    go false false false false = lit≤ tt
+    go : length (decimalIn k (n / 10)) ≤ k → (t : Bool) → length (cond t ((48 + n) ∷ []) (decimalIn k (n / 10) ++ (48 + n % 10) ∷ [])) ≤ suc k
+    go h true = omega arith
+    go h false = omega (arith, length-append (decimalIn k (n / 10)) ((48 + n % 10) ∷ []), h)
+
+pub decimal-small : (n : ℕ) → length (decimal n) ≤ 10
+unfolding decimal
+decimal-small n = decimal-in-small 10 n
+
+-- a number below a power of ten has at most so many digits
+decimal-in-short : (k n j : ℕ) → n < 10 ^ suc j → length (decimalIn k n) ≤ suc j
+decimal-in-short zero n j h = omega arith
+decimal-in-short (suc k) n zero h = rw (lt-ltb n 10 h) (lit≤ tt)
+decimal-in-short (suc k) n (suc j) h = go (decimal-in-short k (n / 10) j (omega (arith, h, pow-suc 10 (suc j)))) (ltb n 10)
+  where
+    go : length (decimalIn k (n / 10)) ≤ suc j → (t : Bool) → length (cond t ((48 + n) ∷ []) (decimalIn k (n / 10) ++ (48 + n % 10) ∷ [])) ≤ suc (suc j)
+    go g true = omega arith
+    go g false = omega (arith, length-append (decimalIn k (n / 10)) ((48 + n % 10) ∷ []), g)
+
+pub decimal-short : (n : ℕ) → n < 100000 → length (decimal n) ≤ 5
+unfolding decimal
+decimal-short n h = decimal-in-short 10 n 4 h
 
 -- a text is taken out of its padding again, and has room there
 pub take-padded : (n : ℕ) (t : List ℕ) (k : ℕ) → length t ≡ k → take k (padded n t) ≡ t
@@ -63,11 +76,15 @@ length-lines input (suc k) =
     let g = length-line (4 * k) (wordAt input k) in
     rw (length-append (lines input k) (line (4 * k) (wordAt input k))) (omega arith)
 
-pub length-header : (n : ℕ) → length (header n) ≤ 12
+pub length-words : (input : List ℕ) (k : ℕ) → length (wordsTo input k) ≡ k
+unfolding wordsTo
+length-words input zero = refl
+length-words input (suc k) = length-append (wordsTo input k) (wordAt input k ∷ []) ∙ rw (length-words input k) (add-one k)
+
+pub length-header : (n : ℕ) → n < 100000 → length (header n) ≤ 12
 unfolding header bytes
-length-header n =
-    let h = length-digits 10 (places n) n in
-    let g = places-small n in
+length-header n small =
+    let h = decimal-short n small in
     rw (length-append (bytes "words " ++ decimal n) (10 ∷ []), length-append (bytes "words ") (decimal n)) (omega arith)
 
 -- a name as the code holds it: its bytes are the text

@@ -1,12 +1,14 @@
 -- Texts put into a buffer one behind the other are one text.
-use Prim.Native.Nat.{ℕ, _+_, _≤_}
-use mathlib.Core.List.{List, [], _++_, append-assoc, append-nil}
-use mathlib.Core.Path.{_≡_, _∙_, ap}
+use Prim.Native.Nat.{ℕ, suc, _+_, _<_, _≤_}
+use mathlib.Core.List.{List, [], _∷_, _++_, append-assoc, append-nil}
+use mathlib.Core.Path.{_≡_, sym, _∙_, ap}
+use native.Mathlib.Numerals.{add-one}
 use native.Mathlib.Nat.{add-assoc, add-zero}
 use native.Mathlib.Omega.{arith}
-use lib.ListN.{length, take, drop, length-append, take-append-drop}
-use lib.Seq.{take-at, drop-at, drop-drop, length-take-le}
-use Rattle.listing.specs.Buffer.{placed, Wrote, wrote, writes}
+use borrow.Author.Tests.{le-ltb}
+use lib.ListN.{length, take, drop, set, length-append, length-drop, take-append-drop}
+use lib.Seq.{take-at, drop-at, drop-drop, length-take-le, set-split, append-snoc}
+use Rattle.listing.specs.Buffer.{placed, Wrote, wrote, writes, puts}
 
 pub end-is : {x y : Wrote} → x ≡ y → x .end ≡ y .end
 end-is h = ap (λ (x : Wrote). x .end) h
@@ -38,3 +40,23 @@ module _ (l : List ℕ) (at : ℕ) (t : List ℕ) (fits : at + length t ≤ leng
 -- nothing put anywhere
 pub writes-none : (l : List ℕ) (at : ℕ) → wrote at l ≡ writes l at []
 writes-none l at = rw (add-zero at, append-nil (take at l), take-append-drop at l)
+
+-- one element put at a place
+pub writes-one : (l : List ℕ) (at : ℕ) (x : ℕ) → at < length l → wrote (at + 1) (set l at x) ≡ writes l at (x ∷ [])
+writes-one l at x h = rw (set-split l at x h, add-one at) (ap (wrote (suc at)) (sym (append-snoc (take at l) x (drop (suc at) l))))
+
+length-placed : (l : List ℕ) (at : ℕ) (t : List ℕ) → at + length t ≤ length l → length (placed l at t) ≡ length l
+length-placed l at t fits =
+    length-append (take at l ++ t) (drop (at + length t) l) ∙
+    rw (length-append (take at l) t, length-take-le at l (omega arith), length-drop (at + length t) l) (omega arith)
+
+-- a part that has room
+pub puts-fits : (l : List ℕ) (at : ℕ) (t u : List ℕ) → at + length t + length u ≤ length l → puts (writes l at t) u ≡ writes l at (t ++ u)
+unfolding puts
+puts-fits l at t u fits =
+    let first : at + length t ≤ length l = omega arith in
+    rw (length-placed l at t first, le-ltb (length l) (at + length t + length u) fits, placed-twice l at t first u, length-append t u, add-assoc at (length t) (length u))
+
+-- the same of the first text
+pub puts-first : (l u : List ℕ) → length u ≤ length l → puts (wrote 0 l) u ≡ writes l 0 u
+puts-first l u fits = ap (λ (w : Wrote). puts w u) (writes-none l 0) ∙ puts-fits l 0 [] u (omega (arith, fits))

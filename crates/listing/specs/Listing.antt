@@ -1,7 +1,7 @@
 -- What the lister prints (document 01, "Figures to check", Lister).
 use Prim.Native.Nat.{ℕ, zero, suc, _+_, _*_, _/_, _%_}
 use mathlib.Core.Bool.{Bool, _||_, not, cond}
-use mathlib.Core.List.{List, [], _++_}
+use mathlib.Core.List.{List, [], _∷_, _++_}
 use lib.Dec.{eqb, ltb}
 use lib.ListN.{length, getD}
 use Rattle.answer.specs.Answer.{Answer, given, refused, undefined}
@@ -14,6 +14,11 @@ use Rattle.listing.specs.Number.{hex, decimal}
 -- "words little endian": the word at a place of the input
 abbrev pub wordAt : List ℕ → ℕ → ℕ
 wordAt input k = getD input (4 * k) 0 + 0x100 * getD input (4 * k + 1) 0 + 0x10000 * getD input (4 * k + 2) 0 + 0x1000000 * getD input (4 * k + 3) 0
+
+-- the first k words of the input
+unfoldable pub wordsTo : List ℕ → ℕ → List ℕ
+wordsTo input zero = []
+wordsTo input (suc k) = wordsTo input k ++ wordAt input k ∷ []
 
 -- what stands for the name: an undefined word and one that is not fitted have their own words
 abbrev pub labelOf : Answer Instruction → List ℕ

@@ -3,8 +3,6 @@ use Prim.Native.Nat.{ℕ, zero, suc, _+_, _/_, _%_}
 use mathlib.Core.Bool.{cond}
 use mathlib.Core.List.{List, [], _∷_, _++_}
 use lib.Dec.{ltb}
-use Rattle.isa.specs.Text.{padded}
-use Rattle.listing.specs.declared.number.Decimal.{Decimal}
 
 -- the digit of a number below 16: `0` to `9`, then `A` to `F`
 abbrev pub digit : ℕ → ℕ
@@ -19,14 +17,11 @@ digits base (suc k) n = digits base k (n / base) ++ digit (n % base) ∷ []
 abbrev pub hex : ℕ → List ℕ
 hex n = digits 16 8 n
 
--- how many decimal digits a number below 100,000 has
-abbrev pub places : ℕ → ℕ
-places n = cond (ltb n 10) 1 (cond (ltb n 100) 2 (cond (ltb n 1000) 3 (cond (ltb n 10000) 4 5)))
+-- a number in decimal, of at most so many digits: below ten its digit, else its tenth and its last digit
+abbrev pub decimalIn : ℕ → ℕ → List ℕ
+decimalIn zero n = []
+decimalIn (suc k) n = cond (ltb n 10) ((48 + n) ∷ []) (decimalIn k (n / 10) ++ (48 + n % 10) ∷ [])
 
--- "in decimal": a number below 100,000
-abbrev pub decimal : ℕ → List ℕ
-decimal n = digits 10 (places n) n
-
--- a decimal number as the code holds it
-abbrev pub spelled : ℕ → Decimal
-spelled n = record { bytes = padded 5 (decimal n); len = places n }
+-- "in decimal": a number of 32 bits has at most ten digits
+unfoldable pub decimal : ℕ → List ℕ
+decimal n = decimalIn 10 n

@@ -4,7 +4,7 @@ ghost use mathlib.Core.List.{_++_};
 ghost use Prim.Native.Nat.{_+_, _≤_};
 ghost use lib.ListN.{length};
 ghost use Rattle.isa.specs.Text.{bytes};
-ghost use Rattle.listing.specs.Buffer.{wrote, writes};
+ghost use Rattle.listing.specs.Buffer.{wrote, writes, puts};
 
 // Puts the bytes of a text at a place, and answers the place behind them.
 pub fn put(out: &mut [u8], at: usize, text: &[u8]) -> usize
@@ -27,4 +27,17 @@ pub fn put_row(out: &mut [u8], at: usize, first: &[u8], rest: &[u8]) -> usize
     let at = put(out, at, first);
     let at = put(out, at, rest);
     put(out, at, b"\n")
+}
+
+// Puts the bytes of a text at a place, and answers the place behind them; nothing where they have no room there.
+pub fn put_text(out: &mut [u8], at: usize, text: &[u8]) -> usize
+    ensures { λ r. ⌜ wrote r (now (out .exit)) ≡ puts (wrote at (now (out .entry))) (now (text .entry)) ⌝ }
+{
+    if out.len() < text.len() {
+        return at;
+    }
+    if out.len() - text.len() < at {
+        return at;
+    }
+    put(out, at, text)
 }

@@ -1,13 +1,9 @@
 // Numbers as text.
 ghost use mathlib.Core.Path.{_≡_};
 ghost use Prim.Native.Nat.{_<_};
-ghost use Rattle.listing.specs.Number.{digit, hex, spelled};
-
-// A number below 100,000 in decimal: its digits from the front, then zeros.
-pub struct Decimal {
-    pub bytes: [u8; 5],
-    pub len: usize,
-}
+ghost use Rattle.listing.specs.Buffer.{wrote, puts};
+ghost use Rattle.listing.specs.Number.{digit, hex, decimal};
+use crate::buffer::put_text;
 
 // The digit of a number below 16.
 fn digit_of(n: u32) -> u8
@@ -37,39 +33,11 @@ pub fn hex_of(n: u32) -> [u8; 8]
     ]
 }
 
-pub fn decimal_of(n: u32) -> Decimal
-    ensures { λ r. ⌜ r ≡ spelled n ⌝ }
+// Puts a number in decimal at a place, and answers the place behind it; nothing where it has no room there.
+pub fn put_decimal(out: &mut [u8], at: usize, n: u32) -> usize
+    ensures { λ r. ⌜ wrote r (now (out .exit)) ≡ puts (wrote at (now (out .entry))) (decimal n) ⌝ }
 {
-    let d = digit_of(n % 10);
-    if n < 10 {
-        return Decimal {
-            bytes: [d, 0, 0, 0, 0],
-            len: 1,
-        };
-    }
-    let c = digit_of(n / 10 % 10);
-    if n < 100 {
-        return Decimal {
-            bytes: [c, d, 0, 0, 0],
-            len: 2,
-        };
-    }
-    let b = digit_of(n / 100 % 10);
-    if n < 1000 {
-        return Decimal {
-            bytes: [b, c, d, 0, 0],
-            len: 3,
-        };
-    }
-    let a = digit_of(n / 1000 % 10);
-    if n < 10000 {
-        return Decimal {
-            bytes: [a, b, c, d, 0],
-            len: 4,
-        };
-    }
-    Decimal {
-        bytes: [digit_of(n / 10000 % 10), a, b, c, d],
-        len: 5,
-    }
+    let mut digits = [0u8; 20];
+    let count = io::decimal(n as u64, &mut digits);
+    put_text(out, at, &digits[..count])
 }

@@ -1,14 +1,15 @@
 // The listing: header, lines, and the refusal.
 use crate::buffer::put;
 use crate::buffer::put_row;
-use crate::number::decimal_of;
+use crate::buffer::put_text;
 use crate::number::hex_of;
+use crate::number::put_decimal;
 use isa::Reading;
 ghost use mathlib.Core.Path.{_≡_};
 ghost use Prim.Native.Nat.{_+_, _*_, _≤_, _<_};
 ghost use lib.ListN.{length};
-ghost use Rattle.listing.specs.Buffer.{wrote, writes, printed};
-ghost use Rattle.listing.specs.Listing.{wordAt, columnsOf, header, line};
+ghost use Rattle.listing.specs.Buffer.{wrote, writes, loads, printed};
+ghost use Rattle.listing.specs.Listing.{wordAt, wordsTo, columnsOf, header, line, bad};
 
 fn word_at(input: &[u8], k: usize) -> u32
     requires { ⌜ 4 * k + 3 < length (now input) ⌝ }
@@ -24,6 +25,38 @@ fn wide(b: u8) -> u32
     ensures { λ r. ⌜ (r ≡ b) × (r < 256) ⌝ }
 {
     b as u32
+}
+
+// Whether an input is no program.
+fn is_bad(input: &[u8]) -> bool
+    ensures { λ r. ⌜ r ≡ bad (now (input .entry)) ⌝ }
+{
+    let size = input.len();
+    (size == 0) | (size % 4 != 0) | (65536 < size)
+}
+
+// The first words of an input, stored from the start on.
+fn take_words(input: &[u8], count: usize, program: &mut [u32]) -> usize
+    requires { ⌜ (4 * count ≤ length (now input)) × (count ≤ length (now program)) ⌝ }
+    ensures { λ r. ⌜ wrote r (now (program .exit)) ≡ writes (now (program .entry)) 0 (wordsTo (now (input .entry)) count) ⌝ }
+{
+    let mut k = 0;
+    while k < count {
+        program[k] = word_at(input, k);
+        k += 1;
+    }
+    k
+}
+
+// Puts the words of a program's bytes at the start of the buffer, and answers their number; 0 where the bytes are no program.
+pub fn words(input: &[u8], program: &mut [u32; 16384]) -> usize
+    ensures { λ r. ⌜ wrote r (now (program .exit)) ≡ loads (now (input .entry)) (now (program .entry)) ⌝ }
+{
+    let refused = is_bad(input);
+    if refused {
+        return 0;
+    }
+    take_words(input, input.len() / 4, program)
 }
 
 // The columns of a line before its name.
@@ -55,13 +88,12 @@ fn columns(address: u32, w: u32) -> [u8; 18]
 }
 
 fn put_header(out: &mut [u8], n: u32) -> usize
-    requires { ⌜ 12 ≤ length (now out) ⌝ }
+    requires { ⌜ (12 ≤ length (now out)) × (n < 100000) ⌝ }
     ensures { λ r. ⌜ wrote r (now (out .exit)) ≡ writes (now (out .entry)) 0 (header n) ⌝ }
 {
-    let count = decimal_of(n);
-    let digits = count.bytes;
-    let len = count.len;
-    put_row(out, 0, b"words ", &digits[..len])
+    let at = put_text(out, 0, b"words ");
+    let at = put_decimal(out, at, n);
+    put_text(out, at, b"\n")
 }
 
 fn put_line(out: &mut [u8], at: usize, address: u32, w: u32) -> usize
@@ -86,11 +118,11 @@ fn put_line(out: &mut [u8], at: usize, address: u32, w: u32) -> usize
 pub fn list(input: &[u8], out: &mut [u8; 475148]) -> usize
     ensures { λ r. ⌜ wrote r (now (out .exit)) ≡ printed (now (input .entry)) (now (out .entry)) ⌝ }
 {
-    let size = input.len();
-    if (size == 0) | (size % 4 != 0) | (65536 < size) {
+    let refused = is_bad(input);
+    if refused {
         return put(out, 0, b"refused 1\n");
     }
-    let count = size / 4;
+    let count = input.len() / 4;
     let mut at = put_header(out, count as u32);
     let mut k = 0;
     while k < count {

@@ -14,6 +14,6 @@ main-spec =
     (λ c. search needs)
     (λ c κs. search needs)
     (λ c. within _ _ _ _ (c .list .ensures))
-    (λ c. shown _ _ _ _ (c .before .list .ensures))
+    (λ c. shown _ _ (within _ _ _ _ (c .before .list .ensures)))
     (λ c κs. search needs)
     (λ c. search needs))

@@ -1,23 +1,38 @@
--- `put_header` meets its contract: the digits that it takes are the number's.
-use borrow.Author.Needs.{needs}
-use mathlib.Core.Path.{sym}
+-- `put_header` meets its contract: its three texts have room.
+use mathlib.Core.List.{[], _∷_, _++_}
+use mathlib.Core.Path.{_∙_, ap}
 use native.Mathlib.Omega.{arith}
+use borrow.Author.Needs.{needs}
+use lib.ListN.{length-append}
 use Rattle.isa.specs.Text.{bytes}
-use Rattle.listing.proofs.Lengths.{length-digits, places-small, take-padded, padded-room}
+use Rattle.listing.proofs.Lengths.{decimal-short}
+use Rattle.listing.proofs.Placing.{puts-first, puts-fits}
 use Rattle.listing.proofs.text.put_header.Statement.{statement}
 use Rattle.listing.proofs.text.put_header.Tie as tie
+use Rattle.listing.specs.Buffer.{Wrote, puts}
 use Rattle.listing.specs.Listing.{header}
-use Rattle.listing.specs.Number.{decimal, places}
+use Rattle.listing.specs.Number.{decimal}
+
+returns : tie.Need-returns
+unfolding header bytes
+returns c =
+    let x = c .before .before .before .before .before .before .before .before .before .before .before .before .before .before .before in
+    let l = x .args .out .now in
+    let w = bytes "words " in
+    let d = decimal (x .args .n) in
+    let short = decimal-short (x .args .n) (x .pre .1) in
+    let e = c .before .before .before .before .before .before .before .before .before .before .before .put-text .ensures ∙ puts-first l w (omega (arith, x .pre .0)) in
+    let f = c .before .before .before .before .before .before .before .put-decimal .ensures ∙ ap (λ (z : Wrote). puts z d) e ∙ puts-fits l 0 w d (omega (arith, x .pre .0, short)) in
+    c .before .before .put-text2 .ensures ∙ ap (λ (z : Wrote). puts z (10 ∷ [])) f ∙ puts-fits l 0 (w ++ d) (10 ∷ []) (omega (arith, x .pre .0, short, length-append w d))
 
 pub put-header-spec : {M : Type 1} → statement M
-unfolding header bytes
 put-header-spec =
     tie.close
     (tie.spec
+    (λ c. search needs)
+    (λ c κs. search needs)
     (λ c κs. search needs)
     (λ c. search needs)
-    (λ c. let n = c .before .before .before .before .before .args .n in rw (c .before .before .before .decimal-of .ensures) (padded-room 5 (decimal n) (places n) (length-digits 10 (places n) n)))
-    (λ c. let n = c .before .before .before .before .before .before .args .n in rw (c .before .before .before .before .decimal-of .ensures, take-padded 5 (decimal n) (places n) (length-digits 10 (places n) n)) (sym (length-digits 10 (places n) n)))
-    (λ c κs. let n = c .before .before .before .before .before .before .args .n in rw (c .before .before .before .before .decimal-of .ensures, take-padded 5 (decimal n) (places n) (length-digits 10 (places n) n)) (omega (arith, length-digits 10 (places n) n, places-small n, c .before .before .before .before .before .before .pre)))
+    (λ c κs. search needs)
     (λ c. search needs)
-    (λ c. let n = c .before .before .before .before .before .before .before .before .before .args .n in rw (c .before .before .before .before .before .before .before .decimal-of .ensures, take-padded 5 (decimal n) (places n) (length-digits 10 (places n) n)) at (c .before .before .put-row .ensures)))
+    returns)

@@ -1,0 +1,30 @@
+-- `put_line` meets its contract: its parts one behind the other.
+use borrow.Author.Needs.{needs}
+use mathlib.Core.List.{[], _∷_, _++_}
+use Rattle.isa.specs.Text.{bytes}
+use Rattle.listing.specs.Buffer.{wrote}
+use Rattle.report.proofs.Parts.{after}
+use Rattle.report.specs.Report.{stateParts, lineParts}
+use Rattle.listing.specs.Number.{decimal}
+use Rattle.report.proofs.thread_line.put_line.Statement.{statement}
+use Rattle.report.proofs.thread_line.put_line.Tie as tie
+
+pub put-line-spec : {M : Type 1} → statement M
+unfolding lineParts bytes
+put-line-spec =
+    tie.close
+    (tie.spec
+    (λ c. search needs)
+    (λ c κs. search needs)
+    (λ c κs. search needs)
+    (λ c κs. search needs)
+    (λ c. search needs)
+    (λ c κs. search needs)
+    (λ c. search needs)
+    (λ c.
+    let x = c .before .before .before .before .before .before .before .before .before .before .before .before .before .before .before .before .before .before .before .args in
+    let p = bytes "thread " ∷ [] in
+    let q = decimal (x .thread) ∷ [] in
+    let r = stateParts (x .status) (x .pc) in
+    let w = wrote (x .at) (x .out .now) in
+    after w (p ++ q ++ r) (bytes "\n" ∷ []) (after w (p ++ q) r (after w p q (c .before .before .before .before .before .before .before .before .before .before .before .before .before .before .before .put-text .ensures) (c .before .before .before .before .before .before .before .before .before .before .before .put-decimal .ensures)) (c .before .before .before .before .before .before .before .put-state .ensures)) (c .before .before .put-text2 .ensures)))

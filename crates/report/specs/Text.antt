@@ -1,0 +1,21 @@
+-- Text put together from parts.
+use Prim.Native.Nat.{ℕ, zero, suc, _+_, _/_, _%_}
+use mathlib.Core.Bool.{cond}
+use mathlib.Core.List.{List, [], _∷_, _++_}
+use lib.Dec.{ltb}
+use Rattle.listing.specs.Buffer.{Wrote, puts}
+use Rattle.listing.specs.Number.{hex}
+
+-- the parts, one behind the other
+unfoldable pub joined : List (List ℕ) → List ℕ
+joined [] = []
+joined (part ∷ parts) = part ++ joined parts
+
+-- the parts put into a buffer, each where the last one ended
+abbrev pub putsAll : Wrote → List (List ℕ) → Wrote
+putsAll w [] = w
+putsAll w (part ∷ parts) = putsAll (puts w part) parts
+
+-- a program counter: eight upper-case hex digits, as in a listing
+unfoldable pub counter : ℕ → List ℕ
+counter address = hex address

@@ -1,0 +1,49 @@
+// What goes to standard error: one line.
+use libc::STDERR_FILENO;
+
+fn say(text: &[u8]) {
+    io::write_all(STDERR_FILENO, text);
+}
+
+// A line about the arguments.
+pub fn complain(text: &[u8]) {
+    say(b"korvammel: ");
+    say(text);
+    say(b"\n");
+}
+
+// A line about an argument, which it ends with.
+pub fn complain_of(text: &[u8], argument: &[u8]) {
+    say(b"korvammel: ");
+    say(text);
+    say(argument);
+    say(b"\n");
+}
+
+// A line about a file that a call just failed on, with the system's reason.
+pub fn fail(text: &[u8], path: &[u8]) {
+    say(b"korvammel: ");
+    say(text);
+    os::fail(path);
+}
+
+fn meaning(number: u8) {
+    match number {
+        1 => say(b"a program is 1 to 16,384 whole words of four bytes"),
+        3 => say(b"a memory has 64 to 65,536 bytes, a multiple of 64"),
+        4 => say(b"the image holds a machine that is not well formed, or a number out of range"),
+        5 => say(b"a mask is 1 to 255"),
+        9 => say(b"an image has 36,948 bytes and 68 more for each 64 bytes of memory"),
+        10 => say(b"an image record has a wrong mark, or a number out of place"),
+        _ => say(b"see document 01's table"),
+    }
+}
+
+// A line for a number of document 01's table.
+pub fn refuse(number: u8) {
+    say(b"korvammel: refused ");
+    io::print_decimal(STDERR_FILENO, number as u64);
+    say(b": ");
+    meaning(number);
+    say(b"\n");
+}
