@@ -4,7 +4,8 @@ use mathlib.Core.Bool.{Bool, _||_, cond}
 use mathlib.Core.List.{List}
 use Rattle.alu.specs.Binary.{binary}
 use Rattle.alu.specs.Compare.{compare}
-use Rattle.vector.specs.Lanes.{lane, binaryLanes, unaryLanes, compareLanes, shuffled}
+use Rattle.compares.specs.Lanes.{compareLanes}
+use Rattle.vector.specs.Lanes.{lane, binaryLanes, unaryLanes, shuffled}
 use Rattle.alu.specs.Unary.{unary}
 use Rattle.alu.specs.Word.{isSet}
 use Rattle.execution.specs.Operand.{source, isVector, word, lanes}

@@ -60,7 +60,7 @@ fn compare(room: &mut [u32], t: usize, op: CompareOp, d: u8, a: Source, b: Sourc
         let x = operand::lanes(room, t, a);
         let y = operand::lanes(room, t, b);
         let mask = registers::scalar(room, t, registers::LANE_MASK);
-        registers::set_scalar(room, t, d, vector::compare_lanes(op, mask, x, y));
+        registers::set_scalar(room, t, d, compares::compare_lanes(op, mask, x, y));
     } else {
         let x = operand::word(a);
         let y = operand::word(b);

@@ -1,4 +1,2 @@
 -- Laws that several proofs cite, and the proofs of the claims.
 pub mod Filling
-pub mod Order
-pub mod Flags

@@ -1,5 +1,4 @@
 -- Sixteen lanes of words: what the contracts cite.
 pub mod Types
 pub mod Lanes
-pub mod Outcome
 pub mod Claims

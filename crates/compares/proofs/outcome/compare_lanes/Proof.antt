@@ -4,11 +4,12 @@ use Prim.Native.Nat.{ℕ}
 use lib.Bits.{bitAnd}
 use borrow.Author.Needs.{needs}
 use Rattle.alu.specs.Compare.{compare}
-use Rattle.vector.specs.Lanes.{lane, compareLanes}
-use Rattle.vector.specs.Outcome.{answersOf}
-use Rattle.vector.proofs.Flags.{masked}
-use Rattle.vector.proofs.outcome.compare_lanes.Statement.{statement}
-use Rattle.vector.proofs.outcome.compare_lanes.Tie as tie
+use Rattle.vector.specs.Lanes.{lane}
+use Rattle.compares.specs.Lanes.{compareLanes}
+use Rattle.compares.specs.Outcome.{answersOf}
+use Rattle.compares.proofs.Flags.{masked}
+use Rattle.compares.proofs.outcome.compare_lanes.Statement.{statement}
+use Rattle.compares.proofs.outcome.compare_lanes.Tie as tie
 
 returns : tie.Need-returns
 unfolding answersOf compareLanes

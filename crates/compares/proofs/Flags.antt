@@ -8,8 +8,9 @@ use native.Mathlib.Omega.{arith}
 use lib.Bits.{bitAnd, bitOr, and-zero-l, and-comm, and-mask, and-le-l, and-mod, and-block, or-shifted-r, or-zero-r}
 use lib.Dec.{eqb, lit<}
 use lib.Pow.{pow-pos, pow-lt, pow-mono, shl-exact, mod-pow-add}
-use Rattle.vector.specs.Lanes.{bits, isOn}
-use Rattle.vector.specs.Outcome.{flagsOf}
+use Rattle.vector.specs.Lanes.{isOn}
+use Rattle.compares.specs.Lanes.{bits}
+use Rattle.compares.specs.Outcome.{flagsOf}
 
 at-most : (t : Bool) (n : ℕ) → cond t n 0 ≤ n
 at-most true n = omega arith
@@ -89,7 +90,3 @@ masked n mask f =
     ∙ and-mod (bits n f) mask n
     ∙ ap (λ (k : ℕ). bitAnd k (mask % 2 ^ n)) (mod-eq-of-lt (bits-lt n f))
     ∙ low n mask f
-
--- a mask has no bit past the 32nd
-pub no-bit : (mask j : ℕ) → mask < 2 ^ 32 → 32 ≤ j → isOn mask j ≡ false
-no-bit mask j h l = rw (div-eq-of-lt {n = mask} {m = 2 ^ j} (let p : mask < 2 ^ j = omega (arith, pow-mono {i = 32} {j = j} l) in p))

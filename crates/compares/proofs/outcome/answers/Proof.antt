@@ -2,11 +2,11 @@
 use Prim.Native.Nat.{_-_}
 use borrow.Author.Needs.{needs}
 use Rattle.alu.specs.Compare.{compare}
 use Rattle.vector.specs.Lanes.{lane}
-use Rattle.vector.specs.Outcome.{answersOf}
-use Rattle.vector.proofs.Flags.{Collecting, start, more, whole}
-use Rattle.vector.proofs.outcome.answers.Statement.{statement}
-use Rattle.vector.proofs.outcome.answers.Tie as tie
+use Rattle.compares.specs.Outcome.{answersOf}
+use Rattle.compares.proofs.Flags.{Collecting, start, more, whole}
+use Rattle.compares.proofs.outcome.answers.Statement.{statement}
+use Rattle.compares.proofs.outcome.answers.Tie as tie
 
 abbrev Inv-loop : tie.InvT-loop
 Inv-loop op o x y r₀ j₀ r j = Collecting (λ k. compare op (lane x k) (lane y k)) r j

@@ -1,8 +1,8 @@
 // A compare of sixteen lanes as a bit a lane.
 ghost use mathlib.Core.Path.{_≡_};
 ghost use Rattle.alu.specs.Compare.{compare};
-ghost use Rattle.vector.specs.Lanes.{compareLanes};
-ghost use Rattle.vector.specs.Outcome.{biasOf, flagsOf, outcomesOf, answersOf};
+ghost use Rattle.compares.specs.Lanes.{compareLanes};
+ghost use Rattle.compares.specs.Outcome.{biasOf, flagsOf, outcomesOf, answersOf};
 use alu::compare;
 use isa::CompareOp;
 

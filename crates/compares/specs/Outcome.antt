@@ -2,10 +2,11 @@
 use Prim.Native.Nat.{ℕ, _-_, _^_}
 use mathlib.Core.Bool.{Bool, cond}
 use mathlib.Core.List.{List}
-use Rattle.vector.specs.Types.{CompareOp, Eq, Ne, Gt, Ge, Lt, Le, Ugt, Uge, Ult, Ule}
+use Rattle.compares.specs.Types.{CompareOp, Eq, Ne, Gt, Ge, Lt, Le, Ugt, Uge, Ult, Ule}
 use Rattle.alu.specs.Compare.{compare}
-use Rattle.vector.specs.Lanes.{bits, lane}
-use Rattle.vector.specs.declared.outcome.Outcomes.{Outcomes}
+use Rattle.vector.specs.Lanes.{lane}
+use Rattle.compares.specs.Lanes.{bits}
+use Rattle.compares.specs.declared.outcome.Outcomes.{Outcomes}
 
 -- what turns the order that a compare goes by into the unsigned one, added to both operands
 abbrev pub biasOf : CompareOp → ℕ

@@ -1,9 +1,9 @@
 -- `outcome::answer` meets its contract: the outcome that the order of the operands picks is the answer.
 use native.Mathlib.Omega.{arith}
 use borrow.Author.Needs.{needs}
-use Rattle.vector.proofs.Order.{picked-below, picked-equal, picked-above}
-use Rattle.vector.proofs.outcome.answer.Statement.{statement}
-use Rattle.vector.proofs.outcome.answer.Tie as tie
+use Rattle.compares.proofs.Order.{picked-below, picked-equal, picked-above}
+use Rattle.compares.proofs.outcome.answer.Statement.{statement}
+use Rattle.compares.proofs.outcome.answer.Tie as tie
 
 returns : tie.Need-returns
 returns c = picked-below (c .before .before .before .args .op) (c .before .before .before .pre) (search needs) (search needs) (c .before .before .wrapping-add-u32 .ensures) (c .before .wrapping-add-u322 .ensures) (c .if1 .taken)

@@ -1,7 +1,7 @@
 -- `outcome::outcomes_of` meets its contract.
 use borrow.Author.Needs.{needs}
-use Rattle.vector.proofs.outcome.outcomes_of.Statement.{statement}
-use Rattle.vector.proofs.outcome.outcomes_of.Tie as tie
+use Rattle.compares.proofs.outcome.outcomes_of.Statement.{statement}
+use Rattle.compares.proofs.outcome.outcomes_of.Tie as tie
 
 returns : tie.Need-returns
 returns c = cc

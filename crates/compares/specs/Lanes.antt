@@ -1,0 +1,16 @@
+-- A compare of sixteen lanes (document 01, "The words").
+use Prim.Native.Nat.{ℕ, zero, suc, _+_, _^_}
+use mathlib.Core.Bool.{Bool, cond, _&&_}
+use mathlib.Core.List.{List}
+use Rattle.alu.specs.Compare.{compare}
+use Rattle.vector.specs.Lanes.{lane, isOn}
+use Rattle.compares.specs.Types.{CompareOp}
+
+-- the number of n bits whose bit j is 1 exactly where f j holds
+unfoldable pub bits : ℕ → (ℕ → Bool) → ℕ
+bits zero f = 0
+bits (suc n) f = bits n f + cond (f n) (2 ^ n) 0
+
+-- "give a bit per lane, 0 for lanes that are off and for bits 16-31"
+unfoldable pub compareLanes : CompareOp → ℕ → List ℕ → List ℕ → ℕ
+compareLanes op mask x y = bits 16 (λ j. isOn mask j && compare op (lane x j) (lane y j))
