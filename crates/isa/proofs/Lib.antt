@@ -11,3 +11,4 @@ pub mod Formats
 pub mod RoundTrip
 pub mod Ranges
 pub mod Numbering
+pub mod Sets

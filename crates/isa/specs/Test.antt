@@ -1,8 +1,8 @@
 -- Tests: several taken together, and a number looked for in a list.
-use Prim.Native.Nat.{ℕ}
+use Prim.Native.Nat.{ℕ, _+_, _/_, _%_, _^_}
 use mathlib.Core.Bool.{Bool, true, false, _&&_, _||_}
 use mathlib.Core.List.{List, [], _∷_}
-use lib.Dec.{eqb}
+use lib.Dec.{eqb, ltb}
 
 unfoldable pub allFrom : Bool → List Bool → Bool
 allFrom a [] = a
@@ -22,3 +22,11 @@ isInFrom t n (x ∷ xs) = isInFrom (t || eqb n x) n xs
 abbrev pub isIn : ℕ → List ℕ → Bool
 isIn n [] = false
 isIn n (x ∷ xs) = isInFrom (eqb n x) n xs
+
+-- numbers below 8 as a set: bit f of it for the number f
+abbrev pub setOf : List ℕ → ℕ
+setOf [] = 0
+setOf (x ∷ xs) = 2 ^ x + setOf xs
+
+abbrev pub inSet : ℕ → ℕ → Bool
+inSet set f = ltb f 8 && eqb (set / 2 ^ (f % 8) % 2) 1

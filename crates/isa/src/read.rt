@@ -183,12 +183,15 @@ fn read_m(w: u32) -> Reading
     }
 }
 
-// What a word is read as.
+// What a word is read as. No word is of two formats, so that the frequent ones can come first.
 pub fn read_word(w: u32) -> Reading
     ensures { λ r. ⌜ reading r ≡ read w ⌝ }
 {
     if w / 0x40000000 == 0b00 {
         return read_r(w);
+    }
+    if w / 0x40000000 == 0b10 {
+        return read_m(w);
     }
     if w / 0x20000000 == 0b010 {
         return read_i(w);
@@ -201,9 +204,6 @@ pub fn read_word(w: u32) -> Reading
     }
     if w / 0x8000000 == 0b01111 {
         return read_c(w);
-    }
-    if w / 0x40000000 == 0b10 {
-        return read_m(w);
     }
     Reading::Undefined
 }

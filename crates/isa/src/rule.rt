@@ -6,48 +6,49 @@ use crate::instruction::Operation;
 use crate::instruction::UnaryOp;
 ghost use mathlib.Core.Path.{_≡_};
 ghost use Rattle.isa.specs.Rule.{flagsUnary, flagsR, flagsI, destination, operandB, allowsR, allowsI, allowsMovei, allowsJ, allowsC, allowsM};
-ghost use Rattle.isa.specs.Test.{isIn};
+ghost use Rattle.isa.specs.Test.{setOf, inSet};
 
-fn unary_flags(op: UnaryOp, flags: u8) -> bool
-    ensures { λ r. ⌜ r ≡ isIn flags (flagsUnary op) ⌝ }
+// The vector flags that a word of an operation may have, as a set: bit f for flags f. So the compiler looks them up, and does not jump.
+fn unary_set(op: UnaryOp) -> u32
+    ensures { λ r. ⌜ r ≡ setOf (flagsUnary op) ⌝ }
 {
     match op {
-        UnaryOp::Clz => (flags == 0b000) | (flags == 0b110),
-        UnaryOp::Ctz => (flags == 0b000) | (flags == 0b110),
-        UnaryOp::Move => (flags == 0b000) | (flags == 0b110) | (flags == 0b100),
-        UnaryOp::Sext8 => (flags == 0b000) | (flags == 0b110),
-        UnaryOp::Sext16 => (flags == 0b000) | (flags == 0b110),
+        UnaryOp::Clz => 0b01000001,
+        UnaryOp::Ctz => 0b01000001,
+        UnaryOp::Move => 0b01010001,
+        UnaryOp::Sext8 => 0b01000001,
+        UnaryOp::Sext16 => 0b01000001,
     }
 }
 
-fn r_flags(op: Operation, flags: u8) -> bool
-    ensures { λ r. ⌜ r ≡ isIn flags (flagsR op) ⌝ }
+fn r_set(op: Operation) -> u32
+    ensures { λ r. ⌜ r ≡ setOf (flagsR op) ⌝ }
 {
     match op {
-        Operation::Binary(_) => (flags == 0b000)
-            | (flags == 0b111)
-            | (flags == 0b110)
-            | (flags == 0b101),
-        Operation::Unary(op) => unary_flags(op, flags),
-        Operation::Compare(_) => (flags == 0b000)
-            | (flags == 0b011)
-            | (flags == 0b010)
-            | (flags == 0b001),
-        Operation::Shuffle => flags == 0b111,
-        Operation::GetLane => flags == 0b010,
+        Operation::Binary(_) => 0b11100001,
+        Operation::Unary(op) => unary_set(op),
+        Operation::Compare(_) => 0b00001111,
+        Operation::Shuffle => 0b10000000,
+        Operation::GetLane => 0b00000100,
     }
 }
 
-fn i_flags(op: Operation, flags: u8) -> bool
-    ensures { λ r. ⌜ r ≡ isIn flags (flagsI op) ⌝ }
+fn i_set(op: Operation) -> u32
+    ensures { λ r. ⌜ r ≡ setOf (flagsI op) ⌝ }
 {
     match op {
-        Operation::Binary(_) => (flags == 0b00) | (flags == 0b11),
-        Operation::Unary(_) => false,
-        Operation::Compare(_) => (flags == 0b00) | (flags == 0b01),
-        Operation::Shuffle => false,
-        Operation::GetLane => flags == 0b01,
+        Operation::Binary(_) => 0b1001,
+        Operation::Unary(_) => 0,
+        Operation::Compare(_) => 0b0011,
+        Operation::Shuffle => 0,
+        Operation::GetLane => 0b0010,
     }
+}
+
+fn is_in(set: u32, flags: u8) -> bool
+    ensures { λ r. ⌜ r ≡ inSet set flags ⌝ }
+{
+    (flags < 8) & ((set >> (flags % 8)) % 2 == 1)
 }
 
 fn is_destination(vector: bool, d: u8) -> bool
@@ -71,13 +72,13 @@ fn operand_b(op: Operation, b: u8) -> bool
 pub fn r_allows(op: Operation, flags: u8, d: u8, b: u8) -> bool
     ensures { λ r. ⌜ r ≡ allowsR op flags d b ⌝ }
 {
-    r_flags(op, flags) & is_destination(0b100 <= flags, d) & operand_b(op, b)
+    is_in(r_set(op), flags) & is_destination(0b100 <= flags, d) & operand_b(op, b)
 }
 
 pub fn i_allows(op: Operation, flags: u8, d: u8) -> bool
     ensures { λ r. ⌜ r ≡ allowsI op flags d ⌝ }
 {
-    i_flags(op, flags) & is_destination(0b10 <= flags, d)
+    is_in(i_set(op), flags) & is_destination(0b10 <= flags, d)
 }
 
 pub fn movei_allows(flag: u8, d: u8) -> bool

@@ -1,5 +1,6 @@
 -- `i_allows` meets its contract: the two tests are those of the rule.
 use borrow.Author.Needs.{needs}
+use Rattle.isa.proofs.Sets.{i-agrees}
 use Rattle.isa.proofs.rule.i_allows.Statement.{statement}
 use Rattle.isa.proofs.rule.i_allows.Tie as tie
 
@@ -9,4 +10,7 @@ i-allows-spec =
     (tie.spec
     (λ c κs. search needs)
     (λ c κs. search needs)
-    (λ c. rw (c .before .i-flags .ensures, c .is-destination .ensures)))
+    (λ c κs. search needs)
+    (λ c.
+    let a = c .before .before .before .args in
+    rw (c .before .is-in .ensures, c .before .before .i-set .ensures, i-agrees (a .op) (a .flags), c .is-destination .ensures)))

@@ -1,5 +1,6 @@
 -- `r_allows` meets its contract: the three tests are those of the rule.
 use borrow.Author.Needs.{needs}
+use Rattle.isa.proofs.Sets.{r-agrees}
 use Rattle.isa.proofs.rule.r_allows.Statement.{statement}
 use Rattle.isa.proofs.rule.r_allows.Tie as tie
 
@@ -10,4 +11,7 @@ r-allows-spec =
     (λ c κs. search needs)
     (λ c κs. search needs)
     (λ c κs. search needs)
-    (λ c. rw (c .before .before .r-flags .ensures, c .before .is-destination .ensures, c .operand-b .ensures)))
+    (λ c κs. search needs)
+    (λ c.
+    let a = c .before .before .before .before .args in
+    rw (c .before .before .is-in .ensures, c .before .before .before .r-set .ensures, r-agrees (a .op) (a .flags), c .before .is-destination .ensures, c .operand-b .ensures)))

@@ -1,9 +1,9 @@
--- `unary_flags` meets its contract: by the arm that was taken.
-use Rattle.isa.proofs.rule.unary_flags.Statement.{statement}
-use Rattle.isa.proofs.rule.unary_flags.Tie as tie
+-- `unary_set` meets its contract: by the arm that was taken.
+use Rattle.isa.proofs.rule.unary_set.Statement.{statement}
+use Rattle.isa.proofs.rule.unary_set.Tie as tie
 
-pub unary-flags-spec : {M : Type 1} → statement M
-unary-flags-spec =
+pub unary-set-spec : {M : Type 1} → statement M
+unary-set-spec =
     tie.close
     (tie.spec
     (λ c. c .match .keys1)

@@ -1,10 +1,10 @@
--- `i_flags` meets its contract: by the arm that was taken.
+-- `i_set` meets its contract: by the arm that was taken.
 use borrow.Author.Needs.{needs}
-use Rattle.isa.proofs.rule.i_flags.Statement.{statement}
-use Rattle.isa.proofs.rule.i_flags.Tie as tie
+use Rattle.isa.proofs.rule.i_set.Statement.{statement}
+use Rattle.isa.proofs.rule.i_set.Tie as tie
 
-pub i-flags-spec : {M : Type 1} → statement M
-i-flags-spec =
+pub i-set-spec : {M : Type 1} → statement M
+i-set-spec =
     tie.close
     (tie.spec
     (λ c. c .match .keys1)
