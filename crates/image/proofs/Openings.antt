@@ -1,22 +1,24 @@
--- The bytes of a machine record are 60, and what is accepted of them is well formed.
+-- The bytes of a machine record are 60, what is accepted of them is well formed, and its image opens with them.
 use Prim.Native.Nat.{ℕ}
 use mathlib.Core.Bool.{true}
-use mathlib.Core.List.{List, []}
+use mathlib.Core.List.{List, [], _++_}
 use mathlib.Core.Option.{none}
-use mathlib.Core.Path.{_≡_, ap}
+use mathlib.Core.Path.{_≡_, ap, _∙_}
 use native.Mathlib.Omega.{arith}
 use lib.ListN.{length, length-append}
+use lib.Seq.{take-all, take-append-le}
 use Rattle.answer.specs.Refusal.{refusedOr}
 use Rattle.execution.specs.State.{State, state}
 use Rattle.machine.proofs.Tests.{both}
 use Rattle.machine.specs.Machine.{zeroed}
 use Rattle.machine.specs.WellFormed.{wellFormed}
-use Rattle.image.specs.Image.{bodyOf, isEntry, entryIn, machineIn, recordIn}
+use Rattle.image.specs.Claims.{OpensWith}
+use Rattle.image.specs.Image.{shapeOf, bodyOf, image, isEntry, entryIn, machineIn, recordIn}
 use Rattle.image.specs.Join.{total, joined, allBelow}
-use Rattle.image.specs.Layout.{recordKinds, rowOf, sectionOf, startOf, headsUpTo}
+use Rattle.image.specs.Layout.{recordKinds, rowOf, laidOut, sectionOf, startOf, headsUpTo}
 use Rattle.image.specs.Opening.{noBlocks, recordBytes, openingNumber, readOpening}
 use Rattle.image.specs.Refusal.{contentNumber}
-use Rattle.image.specs.Types.{Hd, Th, Machine}
+use Rattle.image.specs.Types.{Hd, Th, Sr, Vr, Mm, Machine}
 use Rattle.image.proofs.Refusals.{content-good}
 use Rattle.image.proofs.Rows.{body-length-of, section-length}
 
@@ -47,3 +49,18 @@ module _ (l : List ℕ) (h : openingNumber l ≡ none) where
   pub opening-well-formed : wellFormed (machineIn noBlocks l) ≡ true
   unfolding openingNumber contentNumber recordIn
   opening-well-formed = both (allBelow 8 (λ t. isEntry (entryIn noBlocks l t))) (wellFormed (machineIn noBlocks l)) (content-good (headsUpTo recordKinds noBlocks l) (recordIn noBlocks l) h .1) .1
+
+-- and an image opens with them
+pub opens-with : OpensWith
+unfolding image laidOut joined recordBytes
+opens-with s =
+    let w = shapeOf (s .memory) in
+    let x = recordBytes (s .machine) in
+    let sr = sectionOf (rowOf w Sr) (bodyOf s Sr) in
+    let vr = sectionOf (rowOf w Vr) (bodyOf s Vr) in
+    let mm = sectionOf (rowOf w Mm) (bodyOf s Mm) in
+    let l = opening-length (s .machine) in
+    let one = length-append x sr in
+    let two = length-append (x ++ sr) vr in
+    take-append-le 60 ((x ++ sr) ++ vr) mm (omega (arith, l, one, two))
+    ∙ (take-append-le 60 (x ++ sr) vr (omega (arith, l, one)) ∙ (take-append-le 60 x sr (omega (arith, l)) ∙ take-all 60 x (omega (arith, l))))

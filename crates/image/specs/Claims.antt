@@ -4,7 +4,7 @@ use mathlib.Core.Bool.{true, false}
 use mathlib.Core.List.{List}
 use mathlib.Core.Logic.{_↔_}
 use mathlib.Core.Path.{_≡_}
-use lib.ListN.{length, getD}
+use lib.ListN.{length, getD, take}
 use Rattle.answer.specs.Answer.{given}
 use Rattle.answer.specs.Refusal.{badMemory}
 use Rattle.execution.specs.Registers.{roomWords}
@@ -13,6 +13,7 @@ use Rattle.machine.specs.WellFormed.{wellFormed}
 use Rattle.image.specs.Calls.{writing, write, reading, read}
 use Rattle.image.specs.Image.{shapeOf, bodyOf, image}
 use Rattle.image.specs.Layout.{kinds, rowOf, orderOf, startOf, bodyIn}
+use Rattle.image.specs.Opening.{recordBytes}
 use Rattle.image.specs.Refusal.{imageLength}
 use Rattle.image.specs.Types.{Kind, Hd, Th, Sr, Vr, Mm}
 
@@ -47,6 +48,10 @@ Begins = (memory : List ℕ) → Beginnings memory
 -- what a record holds stands at its fixed place
 abbrev pub Placed : Type 0
 Placed = (s : State) → Sound s → (k : Kind) (i : ℕ) → i < rowOf (shapeOf (s .memory)) k .count → bodyIn (shapeOf (s .memory)) (image s) k i ≡ bodyOf s k i
+
+-- the bytes of the machine record alone are those that its image opens with
+abbrev pub OpensWith : Type 0
+OpensWith = (s : State) → take 60 (image s) ≡ recordBytes (s .machine)
 
 -- Both ways.
 
