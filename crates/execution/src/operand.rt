@@ -3,6 +3,7 @@ ghost use mathlib.Core.Path.{_≡_};
 ghost use Prim.Native.Nat.{_<_};
 ghost use Rattle.execution.specs.Operand.{source, isVector, word, lanes, Named};
 ghost use Rattle.execution.specs.Registers.{InRoom};
+ghost use Rattle.vector.specs.Lanes.{splatted};
 use crate::registers;
 
 // A scalar's word, or the number of a vector register: its lanes are read where they are used.
@@ -40,12 +41,18 @@ pub fn word(s: Source) -> u32
     }
 }
 
+fn splat(x: u32) -> [u32; 16]
+    ensures { λ r. ⌜ r ≡ splatted x ⌝ }
+{
+    [x; 16]
+}
+
 pub fn lanes(room: &[u32], t: usize, s: Source) -> [u32; 16]
     requires { ⌜ InRoom (now room) t × Named s ⌝ }
     ensures { λ r. ⌜ r ≡ lanes (now (room .entry)) t s ⌝ }
 {
     match s {
-        Source::Scalar(x) => vector::splat(x),
+        Source::Scalar(x) => splat(x),
         Source::Vector(i) => registers::vector(room, t, i),
     }
 }

@@ -1,9 +1,9 @@
-// Sixteen lanes: the operations lane by lane, shuffle, blend and splat.
+// Sixteen lanes: the operations lane by lane, shuffle and blend.
 ghost use mathlib.Core.Path.{_≡_};
 ghost use mathlib.Core.Bool.{cond};
 ghost use Prim.Native.Nat.{_%_, _<_};
 ghost use lib.ListN.{set};
-ghost use Rattle.vector.specs.Lanes.{lane, isOn, binaryLanes, unaryLanes, shuffled, blended, splatted};
+ghost use Rattle.vector.specs.Lanes.{lane, isOn, binaryLanes, unaryLanes, shuffled, blended};
 use alu::binary;
 use alu::unary;
 use isa::BinaryOp;
@@ -121,10 +121,4 @@ pub fn unary_masked(op: UnaryOp, mask: u32, x: [u32; 16], old: [u32; 16]) -> [u3
     ensures { λ r. ⌜ r ≡ blended mask (unaryLanes op x) old ⌝ }
 {
     blend(mask, unary_lanes(op, x), old)
-}
-
-pub fn splat(x: u32) -> [u32; 16]
-    ensures { λ r. ⌜ r ≡ splatted x ⌝ }
-{
-    [x; 16]
 }
