@@ -4,10 +4,9 @@ use mathlib.Core.List.{List, [], _∷_}
 use mathlib.Core.Option.{Option, none, some}
 use lib.ListN.{length, getD}
 use Rattle.answer.specs.Answer.{Answer, refused, no-word}
-use Rattle.isa.specs.Name.{nameOf}
+use Rattle.names.specs.Name.{nameOf, padded}
 use Rattle.isa.specs.Numbers.{numbers, numbersOf, named}
 use Rattle.isa.specs.Read.{read}
-use Rattle.isa.specs.Text.{padded}
 use Rattle.isa.specs.Write.{write}
 use Rattle.isa.specs.declared.instruction.Instruction.{Instruction}
 use Rattle.isa.specs.declared.numbers.Numbers.{Numbers}

@@ -78,7 +78,7 @@ pub extern "C" fn korvammel_name(instruction: &[u32; 6], name: &mut [u8; 8]) -> 
     let naming = isa::of_numbers(numbers_in(instruction));
     match naming {
         Naming::Named(i) => {
-            let found = isa::name_of(i);
+            let found = names::name_of(i);
             let bytes = found.bytes;
             *name = bytes;
             found.len

@@ -2,7 +2,6 @@
 pub mod Both
 pub mod Lookup
 pub mod Tables
-pub mod Names
 pub mod Room
 pub mod Parts
 pub mod Answers

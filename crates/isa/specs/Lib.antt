@@ -9,6 +9,5 @@ pub mod Layout
 pub mod Rule
 pub mod Read
 pub mod Write
-pub mod Name
 pub mod Numbers
 pub mod Claims

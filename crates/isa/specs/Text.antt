@@ -1,9 +1,8 @@
 -- Text as bytes.
-use Prim.Native.Nat.{ℕ, zero, suc, _-_}
+use Prim.Native.Nat.{ℕ, zero, suc}
 use Prim.Native.String.{String, len, charAt}
 use Prim.Native.Char.{code}
-use mathlib.Core.List.{List, [], _∷_, _++_}
-use lib.ListN.{length, replicate}
+use mathlib.Core.List.{List, [], _∷_}
 
 unfoldable pub bytesFrom : ℕ → ℕ → String → List ℕ
 bytesFrom zero i s = []
@@ -13,7 +12,3 @@ bytesFrom (suc n) i s = code (charAt s i) ∷ bytesFrom n (suc i) s
 unfoldable pub bytes : String → List ℕ
 unfolding bytesFrom
 bytes s = bytesFrom (len s) 0 s
-
--- a text in n bytes, with zeros after it
-abbrev pub padded : ℕ → List ℕ → List ℕ
-padded n t = t ++ replicate (n - length t) 0

@@ -1,7 +1,6 @@
-// Instruction words of the house core: read into instructions, written from them, named, and held as numbers (document 01, "The words").
+// Instruction words of the house core: read into instructions, written from them, and held as numbers (document 01, "The words").
 mod field;
 mod instruction;
-mod name;
 mod numbers;
 mod opcode;
 mod pack;
@@ -22,8 +21,6 @@ pub use instruction::Reading;
 pub use instruction::StoreOp;
 pub use instruction::UnaryOp;
 pub use instruction::Writing;
-pub use name::Name;
-pub use name::name_of;
 pub use numbers::Naming;
 pub use numbers::Numbers;
 pub use numbers::numbers_of;

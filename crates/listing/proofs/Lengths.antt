@@ -10,13 +10,13 @@ use borrow.Author.Tests.{lt-ltb}
 use lib.Dec.{eqb, ltb, lit≤}
 use lib.ListN.{length, take, replicate, length-append}
 use lib.Seq.{take-at}
-use Rattle.isa.proofs.Names.{fits}
+use Rattle.names.proofs.Names.{fits}
 use Rattle.answer.specs.Answer.{Answer, given, refused, undefined}
-use Rattle.isa.specs.Name.{spelled}
+use Rattle.names.specs.Name.{padded, spelled}
 use Rattle.isa.specs.Read.{read}
-use Rattle.isa.specs.Text.{bytes, padded}
+use Rattle.isa.specs.Text.{bytes}
 use Rattle.isa.specs.declared.instruction.Instruction.{Instruction}
-use Rattle.isa.specs.declared.name.Name.{Name}
+use Rattle.names.specs.declared.name.Name.{Name}
 use Rattle.listing.specs.Listing.{labelOf, label, columnsOf, line, lines, header, wordAt, wordsTo}
 use Rattle.listing.specs.Number.{decimalIn, decimal}
 

@@ -5,7 +5,7 @@ use mathlib.Core.List.{List, [], _∷_, _++_}
 use lib.Dec.{eqb, ltb}
 use lib.ListN.{length, getD}
 use Rattle.answer.specs.Answer.{Answer, given, refused, undefined}
-use Rattle.isa.specs.Name.{nameOf}
+use Rattle.names.specs.Name.{nameOf}
 use Rattle.isa.specs.Read.{read}
 use Rattle.isa.specs.Text.{bytes}
 use Rattle.isa.specs.declared.instruction.Instruction.{Instruction}

@@ -103,7 +103,7 @@ fn put_line(out: &mut [u8], at: usize, address: u32, w: u32) -> usize
     let first = columns(address, w);
     match isa::read_word(w) {
         Reading::Defined(i) => {
-            let name = isa::name_of(i);
+            let name = names::name_of(i);
             let bytes = name.bytes;
             let len = name.len;
             put_row(out, at, &first, &bytes[..len])

@@ -1,8 +1,8 @@
 -- `put_line` meets its contract: by what the word is read as.
 use native.Mathlib.Omega.{arith}
 use borrow.Author.Needs.{needs}
-use Rattle.isa.proofs.Names.{fits}
-use Rattle.isa.specs.Name.{nameOf}
+use Rattle.names.proofs.Names.{fits}
+use Rattle.names.specs.Name.{nameOf}
 use Rattle.isa.specs.Text.{bytes}
 use Rattle.listing.proofs.Lengths.{name-room, name-taken, name-count}
 use Rattle.listing.proofs.text.put_line.Statement.{statement}

@@ -1,0 +1,27 @@
+-- `name_of` meets its contract: by the instruction's format.
+use borrow.Author.Needs.{needs}
+use Rattle.names.proofs.name.name_of.Statement.{statement}
+use Rattle.names.proofs.name.name_of.Tie as tie
+
+pub name-of-spec : {M : Type 1} → statement M
+name-of-spec =
+    tie.close
+    (tie.spec
+    (λ c. c .match .keys1)
+    (λ c κs. search needs)
+    (λ c. c .match .keys2)
+    (λ c κs. search needs)
+    (λ c. c .match .keys3)
+    (λ c κs. search needs)
+    (λ c. c .match .keys4)
+    (λ c κs. search needs)
+    (λ c. c .match .keys5)
+    (λ c κs. search needs)
+    (λ c. c .match .keys6)
+    (λ c κs. search needs)
+    (λ c. rw (c .before .before .i .given .1) (c .r-name .ensures))
+    (λ c. rw (c .before .before .i2 .given .1) (c .i-name .ensures))
+    (λ c. rw (c .before .before .i3 .given .1) (c .movei-name .ensures))
+    (λ c. rw (c .before .before .i4 .given .1) (c .j-name .ensures))
+    (λ c. rw (c .before .before .i5 .given .1) (c .c-name .ensures))
+    (λ c. rw (c .before .before .i6 .given .1) (c .m-name .ensures)))

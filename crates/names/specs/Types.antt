@@ -1,0 +1,23 @@
+-- The types of instructions, under one roof.
+pub use Rattle.isa.specs.declared.instruction.BinaryOp.{BinaryOp}
+pub use Rattle.isa.specs.declared.instruction.BinaryOp.the-variants.{Or, And, Xor, Add, Sub, Mullo, Mulhi, Mulhu, Ashr, Shr, Shl}
+pub use Rattle.isa.specs.declared.instruction.UnaryOp.{UnaryOp}
+pub use Rattle.isa.specs.declared.instruction.UnaryOp.the-variants.{Clz, Ctz, Move, Sext8, Sext16}
+pub use Rattle.isa.specs.declared.instruction.CompareOp.{CompareOp}
+pub use Rattle.isa.specs.declared.instruction.CompareOp.the-variants.{Eq, Ne, Gt, Ge, Lt, Le, Ugt, Uge, Ult, Ule}
+pub use Rattle.isa.specs.declared.instruction.Operation.{Operation}
+pub use Rattle.isa.specs.declared.instruction.Operation.the-variants.{Binary, Unary, Compare, Shuffle, GetLane}
+pub use Rattle.isa.specs.declared.instruction.MoveiOp.{MoveiOp}
+pub use Rattle.isa.specs.declared.instruction.MoveiOp.the-variants.{Low, High, Whole}
+pub use Rattle.isa.specs.declared.instruction.JumpOp.{JumpOp}
+pub use Rattle.isa.specs.declared.instruction.JumpOp.the-variants.{Jmp, Jmpsr, Jret, Beqz, Bnez}
+pub use Rattle.isa.specs.declared.instruction.ControlOp.{ControlOp}
+pub use Rattle.isa.specs.declared.instruction.ControlOp.the-variants.{Barrier, Readcr, End}
+pub use Rattle.isa.specs.declared.instruction.LoadOp.{LoadOp}
+pub use Rattle.isa.specs.declared.instruction.LoadOp.the-variants.{Load8, Load16, Load32, Load8u, Load16u}
+pub use Rattle.isa.specs.declared.instruction.StoreOp.{StoreOp}
+pub use Rattle.isa.specs.declared.instruction.StoreOp.the-variants.{Store8, Store16, Store32}
+pub use Rattle.isa.specs.declared.instruction.MemoryOp.{MemoryOp}
+pub use Rattle.isa.specs.declared.instruction.MemoryOp.the-variants.{Load, Store, LoadVector, StoreVector}
+pub use Rattle.isa.specs.declared.instruction.Instruction.{Instruction}
+pub use Rattle.isa.specs.declared.instruction.Instruction.the-variants.{R, I, Movei, J, C, M}
