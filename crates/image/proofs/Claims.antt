@@ -1,3 +1,4 @@
 -- The claims of specs/, proved.
+pub use Rattle.image.proofs.Numbers.{exact}
 pub use Rattle.image.proofs.Places.{begins, placed}
 pub use Rattle.image.proofs.RoundTrip.{written-then-read, read-then-written, reads-exactly}
