@@ -4,6 +4,7 @@ pub mod Join
 pub mod Parts
 pub mod Rows
 pub mod Words
+pub mod Numbers
 pub mod Table
 pub mod Standing
 pub mod Refusals

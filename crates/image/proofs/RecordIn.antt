@@ -7,7 +7,7 @@ use native.Mathlib.Omega.{arith}
 use lib.ListN.{length, getD, take, drop}
 use lib.Seq.{getD-drop, getD-take}
 use Rattle.answer.specs.Answer.{Answer}
-use Rattle.machine.specs.Fields.{fields, threadOf}
+use Rattle.image.specs.Fields.{fields, threadOf}
 use Rattle.machine.specs.WellFormed.{wellFormed}
 use Rattle.image.specs.Image.{fieldsIn, isEntry, entryOr, entryIn, threadsIn, machineIn, recordIn}
 use Rattle.image.specs.Join.{joined, allBelow, Grown}

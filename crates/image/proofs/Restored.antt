@@ -9,9 +9,9 @@ use lib.Seq.{take-at, drop-at, drop-drop, getD-take}
 use Rattle.answer.specs.Answer.{Answer, given, refused}
 use Rattle.execution.specs.Registers.{scalarPlace, lanePlace}
 use Rattle.execution.specs.State.{State, state}
-use Rattle.machine.proofs.Claims.{exact}
+use Rattle.image.proofs.Numbers.{exact}
 use Rattle.machine.proofs.Tests.{never}
-use Rattle.machine.specs.Fields.{fieldsOf}
+use Rattle.image.specs.Fields.{fieldsOf}
 use Rattle.machine.specs.Machine.{zeroThread}
 use Rattle.image.specs.Bytes.{wordBytes, byteWord, bytesOf, wordsOf}
 use Rattle.image.specs.Claims.{Words, Bytes}
@@ -61,7 +61,7 @@ module _ (a : Shape) (l : List ℕ) (long : startOf a kinds ≤ length l) (bytes
   th i h =
       let o = entryIn a l i in
       let g = the-entry o (all-elim 8 (λ t. isEntry (entryIn a l t)) read i h) in
-      let f = exact (fieldsIn (bodyIn a l Th i)) (entryOr o) .0 g .0 in
+      let f = exact (fieldsIn (bodyIn a l Th i)) (entryOr o) .0 g in
       ap (λ e. fieldBytes (fieldsOf e)) (read-joined zeroThread 8 i (λ t. entryOr (entryIn a l t)) h)
       ∙ (ap fieldBytes f ∙ four-of (bodyIn a l Th i) (body-size a l long Th i h))
 

@@ -12,10 +12,9 @@ use lib.Seq.{take-all, take-add, getD-drop}
 use Rattle.answer.specs.Answer.{given}
 use Rattle.execution.specs.Registers.{scalarPlace, lanePlace}
 use Rattle.execution.specs.State.{State, state}
-use Rattle.machine.proofs.Claims.{exact}
+use Rattle.image.proofs.Numbers.{exact}
 use Rattle.machine.proofs.Tests.{both}
-use Rattle.machine.proofs.Threads.{all-at}
-use Rattle.machine.specs.Fields.{fieldsOf}
+use Rattle.image.specs.Fields.{fieldsOf}
 use Rattle.machine.specs.Machine.{zeroThread, statusAt, allThreads}
 use Rattle.machine.specs.Status.{carriesInRange}
 use Rattle.machine.specs.WellFormed.{numbersInRange, idleIfDisabled, countAgreed, fewerWait, wellFormed}
@@ -32,7 +31,7 @@ use Rattle.image.proofs.Table.{laid-body, laid-heads}
 use Rattle.image.proofs.Tests.{two, all-intro}
 use Rattle.image.proofs.Words.{words-back}
 
--- A well-formed record has eight entries with their numbers in range.
+-- A well-formed record has eight entries.
 
 module _ (m : Machine) (h : wellFormed m ≡ true) where
   in-range : numbersInRange m ≡ true
@@ -42,15 +41,12 @@ module _ (m : Machine) (h : wellFormed m ≡ true) where
       (both (numbersInRange m && allThreads (idleIfDisabled m)) (allThreads (countAgreed m))
       (both (numbersInRange m && allThreads (idleIfDisabled m) && allThreads (countAgreed m)) (allThreads (fewerWait m)) h .0) .0) .0
 
-  numbers : ((leb 1 (m .enabled) && leb (m .enabled) 255 && leb (m .last) 7 && eqb (length (m .threads)) 8) ≡ true) × (allThreads (λ t. carriesInRange (statusAt m t)) ≡ true)
-  unfolding numbersInRange
-  numbers = both _ (allThreads (λ t. carriesInRange (statusAt m t))) in-range
-
   pub eight : length (m .threads) ≡ 8
-  eight = eqb-true (length (m .threads)) 8 (both (leb 1 (m .enabled) && leb (m .enabled) 255 && leb (m .last) 7) (eqb (length (m .threads)) 8) (numbers .0) .1)
-
-  pub carried : (t : ℕ) → t < 8 → carriesInRange (statusAt m t) ≡ true
-  carried = all-at (λ t. carriesInRange (statusAt m t)) (numbers .1)
+  unfolding numbersInRange
+  eight =
+      eqb-true (length (m .threads)) 8
+      (both (leb 1 (m .enabled) && leb (m .enabled) 255 && leb (m .last) 7) (eqb (length (m .threads)) 8)
+      (both (leb 1 (m .enabled) && leb (m .enabled) 255 && leb (m .last) 7 && eqb (length (m .threads)) 8) (allThreads (λ t. carriesInRange (statusAt m t))) in-range .0) .1)
 
 -- Words laid out in rows of n, from place p on.
 
@@ -109,7 +105,7 @@ module _ (s : State) (w : Lengths (s .registers) (s .memory)) where
     unfolding entryIn
     entry-back t k =
         let e : fieldsIn (bodyIn a l Th t) ≡ fieldsOf (entry t) = ap fieldsIn (body Th t k) in
-        exact (fieldsIn (bodyIn a l Th t)) (entry t) .1 (sym e, carried (s .machine) h t k)
+        exact (fieldsIn (bodyIn a l Th t)) (entry t) .1 (sym e)
 
     threads-back : threadsIn a l ≡ s .machine .threads
     unfolding threadsIn

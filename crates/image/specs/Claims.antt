@@ -11,11 +11,12 @@ use Rattle.execution.specs.Registers.{roomWords}
 use Rattle.execution.specs.State.{State}
 use Rattle.machine.specs.WellFormed.{wellFormed}
 use Rattle.image.specs.Calls.{writing, write, reading, read}
+use Rattle.image.specs.Fields.{fieldsOf, threadOf}
 use Rattle.image.specs.Image.{shapeOf, bodyOf, image}
 use Rattle.image.specs.Layout.{kinds, rowOf, orderOf, startOf, bodyIn}
 use Rattle.image.specs.Opening.{recordBytes}
 use Rattle.image.specs.Refusal.{imageLength}
-use Rattle.image.specs.Types.{Kind, Hd, Th, Sr, Vr, Mm}
+use Rattle.image.specs.Types.{Kind, Hd, Th, Sr, Vr, Mm, Thread, Fields}
 
 -- every number of a list is a word, or a byte: what a lent slice of them says by its type
 abbrev pub Words : List ℕ → Type 0
@@ -54,6 +55,10 @@ abbrev pub OpensWith : Type 0
 OpensWith = (s : State) → take 60 (image s) ≡ recordBytes (s .machine)
 
 -- Both ways.
+
+-- numbers are read as an entry exactly if they are its own
+abbrev pub Exact : Type 0
+Exact = (f : Fields) (e : Thread) → (threadOf f ≡ given e) ↔ (fieldsOf e ≡ f)
 
 -- "Writing then reading gives the same machine": for every state that the writer accepts, whatever the buffers read into held
 abbrev pub WrittenThenRead : Type 0

@@ -7,10 +7,10 @@ use lib.ListN.{length, getD, take, drop}
 use Rattle.answer.specs.Answer.{Answer, given, refused}
 use Rattle.execution.specs.Registers.{roomWords, scalarPlace, lanePlace}
 use Rattle.execution.specs.State.{State, state}
-use Rattle.machine.specs.Fields.{fields, fieldsOf, threadOf}
 use Rattle.machine.specs.Machine.{zeroThread}
 use Rattle.machine.specs.WellFormed.{wellFormed}
 use Rattle.image.specs.Bytes.{bytesOf, wordsOf}
+use Rattle.image.specs.Fields.{fields, fieldsOf, threadOf}
 use Rattle.image.specs.Join.{joined, allBelow}
 use Rattle.image.specs.Layout.{ofBlocks, rowOf, laidOut, bodyIn}
 use Rattle.image.specs.Types.{Kind, Hd, Th, Sr, Vr, Mm, Shape, Machine, Thread, Fields}

@@ -3,6 +3,7 @@ pub mod Types
 pub mod Join
 pub mod Layout
 pub mod Bytes
+pub mod Fields
 pub mod Image
 pub mod Refusal
 pub mod Answer

@@ -7,13 +7,15 @@ pub use Rattle.image.specs.declared.layout.Shape.{Shape}
 pub use Rattle.image.specs.declared.layout.Row.{Row}
 pub use Rattle.image.specs.declared.verdicts.Judgement.{Judgement}
 pub use Rattle.image.specs.declared.entries.Record.{Record}
+pub use Rattle.image.specs.declared.fields.Fields.{Fields}
+pub use Rattle.image.specs.declared.fields.EntryReading.{EntryReading}
+pub use Rattle.image.specs.declared.fields.EntryReading.the-variants.{Entry, Refused as EntryRefused}
 pub use Rattle.image.specs.declared.outcome.WriteAnswer.{WriteAnswer}
 pub use Rattle.image.specs.declared.outcome.WriteAnswer.the-variants.{Written, Refused as WriteRefused}
 pub use Rattle.image.specs.declared.outcome.ReadAnswer.{ReadAnswer}
 pub use Rattle.image.specs.declared.outcome.ReadAnswer.the-variants.{Restored, Refused as ReadRefused}
 pub use Rattle.image.specs.declared.outcome.Read.{Read}
 pub use Rattle.machine.specs.declared.record.Machine.{Machine}
+pub use Rattle.machine.specs.declared.status.Status.{Status}
+pub use Rattle.machine.specs.declared.status.Status.the-variants.{Idle, Running, Ended, Trapped, Waiting}
 pub use Rattle.machine.specs.declared.status.Thread.{Thread}
-pub use Rattle.machine.specs.declared.fields.Fields.{Fields}
-pub use Rattle.machine.specs.declared.fields.EntryReading.{EntryReading}
-pub use Rattle.machine.specs.declared.fields.EntryReading.the-variants.{Entry, Refused as EntryRefused}

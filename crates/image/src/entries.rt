@@ -2,18 +2,19 @@
 ghost use Prim.Native.Nat.{_+_, _≤_};
 ghost use mathlib.Core.Path.{_≡_};
 ghost use lib.ListN.{length, take, drop};
-ghost use Rattle.machine.specs.Answer.{reading};
-ghost use Rattle.machine.specs.Fields.{threadOf};
+ghost use Rattle.image.specs.Answer.{entryAnswered};
+ghost use Rattle.image.specs.Fields.{threadOf};
 ghost use Rattle.image.specs.Image.{fieldsIn, isEntry, entryOr, entryIn, threadsIn, machineIn, recordIn};
 ghost use Rattle.image.specs.Join.{allBelow};
 ghost use Rattle.image.specs.Layout.{recordKinds, startOf};
+use crate::fields::EntryReading;
+use crate::fields::Fields;
+use crate::fields::read_entry;
 use crate::layout::Kind;
 use crate::layout::Shape;
 use crate::layout::first_body;
 use crate::layout::record_size;
 use crate::layout::row_of;
-use machine::EntryReading;
-use machine::Fields;
 use machine::Machine;
 use machine::Status;
 use machine::Thread;
@@ -32,7 +33,7 @@ pub struct Record {
 
 // Whether numbers are read as an entry.
 fn is_entry(entry: EntryReading) -> bool
-    ensures { λ r. ⌜ r ≡ isEntry (reading entry) ⌝ }
+    ensures { λ r. ⌜ r ≡ isEntry (entryAnswered entry) ⌝ }
 {
     match entry {
         EntryReading::Entry(_) => true,
@@ -42,7 +43,7 @@ fn is_entry(entry: EntryReading) -> bool
 
 // The entry that they are read as; with every number 0 where there is none.
 fn entry_or_zero(entry: EntryReading) -> Thread
-    ensures { λ r. ⌜ r ≡ entryOr (reading entry) ⌝ }
+    ensures { λ r. ⌜ r ≡ entryOr (entryAnswered entry) ⌝ }
 {
     match entry {
         EntryReading::Entry(thread) => thread,
@@ -55,9 +56,9 @@ fn entry_or_zero(entry: EntryReading) -> Thread
 // The entry whose numbers stand at a place.
 fn entry_at(image: &[u8], at: usize) -> EntryReading
     requires { ⌜ at + 4 ≤ length (now image) ⌝ }
-    ensures { λ r. ⌜ reading r ≡ threadOf (fieldsIn (take 4 (drop at (now (image .entry))))) ⌝ }
+    ensures { λ r. ⌜ entryAnswered r ≡ threadOf (fieldsIn (take 4 (drop at (now (image .entry))))) ⌝ }
 {
-    Thread::of_fields(Fields {
+    read_entry(Fields {
         status: image[at],
         reason: image[at + 1],
         id: image[at + 2],

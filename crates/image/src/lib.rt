@@ -1,6 +1,7 @@
 // The saved image of a machine, written and read (document 01, "Saved image").
 mod bytes;
 mod entries;
+mod fields;
 mod heads;
 mod layout;
 mod opening;

@@ -9,6 +9,8 @@ ghost use Rattle.image.specs.Join.{Grown};
 ghost use Rattle.image.specs.Layout.{rowOf, kinds, recordSize, extentOf, recordOf, sectionOf, startOf};
 use crate::bytes::copy_eights;
 use crate::bytes::put_words;
+use crate::fields::Fields;
+use crate::fields::fields_of;
 use crate::heads::put_head;
 use crate::layout::KINDS;
 use crate::layout::Kind;
@@ -18,7 +20,6 @@ use crate::layout::row_of;
 use crate::outcome::WriteAnswer;
 use crate::verdicts::sizes_verdict;
 use answer::Verdict;
-use machine::Fields;
 use machine::Machine;
 
 // An entry's numbers stored from a place on.
@@ -53,7 +54,7 @@ fn put_body(
         }
         Kind::Th => {
             let entry = machine.threads[i];
-            put_fields(entry.fields(), buffer, at);
+            put_fields(fields_of(entry), buffer, at);
             at + 4
         }
         Kind::Sr => {

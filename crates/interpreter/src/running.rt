@@ -11,6 +11,8 @@ ghost use Rattle.interpreter.specs.Choosing.{idleEnding};
 ghost use Rattle.interpreter.specs.Refusal.{runNumber};
 ghost use Rattle.interpreter.specs.Run.{outcome, accepted, run};
 ghost use Rattle.interpreter.specs.Stretch.{Stretched};
+ghost use Rattle.machine.specs.Scheduler.{someWaits};
+ghost use Rattle.machine.specs.Status.{isWaiting};
 use crate::outcome::Run;
 use crate::outcome::RunAnswer;
 use answer::Verdict;
@@ -19,6 +21,7 @@ use answer::bad_program;
 use answer::bad_registers;
 use machine::Choice;
 use machine::Machine;
+use machine::Status;
 
 // The number that a run is refused with, if any: of the words of its program and register room, the bytes of its memory, and its record.
 fn run_verdict(words: usize, room: usize, bytes: usize, machine: Machine) -> Verdict
@@ -56,11 +59,37 @@ fn answer_of(running: bool, waits: bool) -> RunAnswer
     RunAnswer::Stopped
 }
 
+fn is_waiting(status: Status) -> bool
+    ensures { λ r. ⌜ r ≡ isWaiting status ⌝ }
+{
+    match status {
+        Status::Idle => false,
+        Status::Running => false,
+        Status::Ended => false,
+        Status::Trapped(_) => false,
+        Status::Waiting(_, _) => true,
+    }
+}
+
+// Whether a thread waits: what tells a stuck machine from a stopped one.
+fn some_waits(machine: Machine) -> bool
+    ensures { λ r. ⌜ r ≡ someWaits machine ⌝ }
+{
+    for t in 0..8usize {
+        let entry = machine.threads[t];
+        let status = entry.status;
+        if is_waiting(status) {
+            return true;
+        }
+    }
+    false
+}
+
 // What it hands back there.
 fn ended(machine: Machine, running: bool, made: u32) -> Run
     ensures { λ r. ⌜ (answered (r .answer) ≡ given (cond running spent (idleEnding machine))) × (r .issues ≡ made) × (r .machine ≡ machine) ⌝ }
 {
-    let waits = machine.some_waits();
+    let waits = some_waits(machine);
     Run {
         answer: answer_of(running, waits),
         issues: made,

@@ -10,5 +10,4 @@ pub mod Kept
 pub mod Meetings
 pub mod Arrivals
 pub mod Starting
-pub mod Numbers
 pub mod Claims

@@ -4,13 +4,10 @@ use mathlib.Core.Bool.{true, false}
 use mathlib.Core.Logic.{_↔_}
 use mathlib.Core.Path.{_≡_}
 use lib.ListN.{length}
-use Rattle.answer.specs.Answer.{given}
 use Rattle.machine.specs.Barrier.{meet}
-use Rattle.machine.specs.Fields.{fieldsOf, threadOf}
 use Rattle.machine.specs.Machine.{statusAt, bit, trap, end, start}
 use Rattle.machine.specs.Scheduler.{runs, after, choice, withLast, issued, choose}
-use Rattle.machine.specs.Status.{carriesInRange}
-use Rattle.machine.specs.Types.{Idle, Trapped, Waiting, Thread, Machine, Choice, Chosen, NoneRunning, Turn, Fields}
+use Rattle.machine.specs.Types.{Idle, Trapped, Waiting, Machine, Choice, Chosen, NoneRunning, Turn}
 use Rattle.machine.specs.WellFormed.{waiting, wellFormed}
 
 -- Well-formedness.
@@ -87,9 +84,3 @@ Ends = (m : Machine) (t : ℕ) → Sound m t (end m t)
 
 abbrev pub Meets : Type 0
 Meets = (m : Machine) (t id second : ℕ) → Sound m t (meet m t id second .machine)
-
--- The numbers of an entry.
-
--- numbers are read as an entry exactly if they are its own, and in range
-abbrev pub Exact : Type 0
-Exact = (f : Fields) (e : Thread) → (threadOf f ≡ given e) ↔ ((fieldsOf e ≡ f) × (carriesInRange (e .status) ≡ true))

@@ -6,6 +6,4 @@ pub mod Machine
 pub mod WellFormed
 pub mod Scheduler
 pub mod Barrier
-pub mod Answer
-pub mod Fields
 pub mod Claims

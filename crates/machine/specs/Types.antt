@@ -7,6 +7,3 @@ pub use Rattle.machine.specs.declared.scheduler.Choice.{Choice}
 pub use Rattle.machine.specs.declared.scheduler.Choice.the-variants.{Chosen, NoneRunning}
 pub use Rattle.machine.specs.declared.scheduler.Turn.{Turn}
 pub use Rattle.machine.specs.declared.barrier.Meeting.{Meeting}
-pub use Rattle.machine.specs.declared.fields.Fields.{Fields}
-pub use Rattle.machine.specs.declared.fields.EntryReading.{EntryReading}
-pub use Rattle.machine.specs.declared.fields.EntryReading.the-variants.{Entry, Refused}

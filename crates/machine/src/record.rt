@@ -3,7 +3,7 @@ ghost use Prim.Native.Nat.{_<_};
 ghost use mathlib.Core.Bool.{cond};
 ghost use mathlib.Core.Path.{_≡_};
 ghost use lib.Dec.{eqb};
-ghost use Rattle.machine.specs.Machine.{statusAt, withStatusAt, bit, zeroed, startStatus, start, trap, end};
+ghost use Rattle.machine.specs.Machine.{statusAt, withStatusAt, bit, zeroed, trap, end};
 use crate::status::Status;
 use crate::status::Thread;
 
@@ -20,17 +20,6 @@ pub fn is_disabled(mask: u8, thread: usize) -> bool
     ensures { λ r. ⌜ r ≡ eqb (bit mask thread) 0 ⌝ }
 {
     (mask >> thread) % 2 == 0
-}
-
-// The status that a thread starts with.
-fn start_status(mask: u8, thread: usize) -> Status
-    requires { ⌜ thread < 8 ⌝ }
-    ensures { λ r. ⌜ r ≡ startStatus mask thread ⌝ }
-{
-    if is_disabled(mask, thread) {
-        return Status::Idle;
-    }
-    Status::Running
 }
 
 fn either(first: bool, a: Status, b: Status) -> Status
@@ -79,19 +68,6 @@ impl Machine {
             self.threads[t] = next;
         }
         self
-    }
-
-    // The record that a mask starts with: its threads running, and 7 last.
-    pub fn start(mask: u8) -> Machine
-        ensures { λ r. ⌜ r ≡ start mask ⌝ }
-    {
-        let mut machine = Machine::zero();
-        machine.enabled = mask;
-        machine.last = 7;
-        for t in 0..8 {
-            machine = machine.with_status(t, start_status(mask, t));
-        }
-        machine
     }
 
     // The thread trapped with a reason. It is "last" already: `choose` made it so.

@@ -1,11 +1,10 @@
 // The scheduler: which thread is issued next.
 ghost use mathlib.Core.Path.{_≡_};
 ghost use Rattle.machine.specs.Machine.{threadNumbers};
-ghost use Rattle.machine.specs.Scheduler.{runs, choose, someWaits};
+ghost use Rattle.machine.specs.Scheduler.{runs, choose};
 ghost use Rattle.machine.specs.Search.{bits};
 use crate::record::Machine;
 use crate::status::is_running;
-use crate::status::is_waiting;
 
 // The thread to issue, and its distance from "last", 1 to 8.
 pub enum Choice {
@@ -56,18 +55,5 @@ impl Machine {
             choice: Choice::Chosen { thread, distance },
             machine: self,
         }
-    }
-
-    // Whether a thread waits: what tells a stuck machine from a stopped one.
-    pub fn some_waits(self) -> bool
-        ensures { λ r. ⌜ r ≡ someWaits self ⌝ }
-    {
-        for thread in 0..8 {
-            let status = self.status_at(thread);
-            if is_waiting(status) {
-                return true;
-            }
-        }
-        false
     }
 }

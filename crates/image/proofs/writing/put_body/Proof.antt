@@ -49,7 +49,7 @@ returns : tie.Need-returns
 returns c = let h = rw (c .enum-told .given .1) at (c .before .before .before .before .before .pre .2) in rw (c .enum-told .given .1) (grown-two (c .before .before .before .before .before .args .buffer .now) (c .before .before .before .before .before .args .at) _ _ h)
 
 returns-2 : tie.Need-returns-2
-returns-2 c = rw (c .before .before .before .before .before .before .enum-told2 .given .1) (grown-new (ap fieldBytes (c .before .before .before .before .fields .ensures)) (c .before .before .put-fields .ensures))
+returns-2 c = rw (c .before .before .before .before .before .before .enum-told2 .given .1) (grown-new (ap fieldBytes (c .before .before .before .before .fields-of .ensures)) (c .before .before .put-fields .ensures))
 
 returns-3 : tie.Need-returns-3
 returns-3 c =

@@ -1,13 +1,13 @@
--- `of_fields` meets its contract.
+-- `fields::read_entry` meets its contract.
 use mathlib.Core.Path.{_≡_, refl, sym, ap, _∙_}
 use mathlib.Core.Option.{Option, some, none}
 use borrow.Author.Needs.{needs}
 use borrow.Author.Tests.{ne-eqb}
 use Rattle.answer.specs.Answer.{Answer}
-use Rattle.machine.specs.Fields.{accepted, numbered, threadOf}
-use Rattle.machine.specs.Types.{Status, Idle, Running, Ended, Trapped, Waiting, Thread, Fields}
-use Rattle.machine.proofs.status.Thread.of_fields.Statement.{statement}
-use Rattle.machine.proofs.status.Thread.of_fields.Tie as tie
+use Rattle.image.specs.Fields.{accepted, numbered, threadOf}
+use Rattle.image.specs.Types.{Status, Idle, Running, Ended, Trapped, Waiting, Thread, Fields}
+use Rattle.image.proofs.fields.read_entry.Statement.{statement}
+use Rattle.image.proofs.fields.read_entry.Tie as tie
 
 named : (f : Fields) (s : Option Status) {r : Answer Thread} → numbered f ≡ s → r ≡ accepted f s → r ≡ threadOf f
 unfolding threadOf
@@ -42,8 +42,8 @@ returns-6 c =
     (simp (ne-eqb (f .status) 0 (n .0 .0 .0 .0 .1), ne-eqb (f .status) 1 (n .0 .0 .0 .1), ne-eqb (f .status) 2 (n .0 .0 .1), ne-eqb (f .status) 3 (n .0 .1), ne-eqb (f .status) 4 (n .1)))
     refl
 
-pub of-fields-spec : {M : Type 1} → statement M
-of-fields-spec =
+pub read-entry-spec : {M : Type 1} → statement M
+read-entry-spec =
     tie.close
     (tie.spec (λ c κs. search needs) (λ c κs. search needs) (λ c κs. search needs) (λ c κs. search needs) (λ c κs. search needs)
     returns returns-2 returns-3 returns-4 returns-5 returns-6)

@@ -6,12 +6,11 @@ use mathlib.Core.Path.{_≡_, refl, sym, ap, _∙_}
 use native.Mathlib.Omega.{arith}
 use borrow.Author.Tests.{eqb-true, eq-eqb}
 use lib.Dec.{eqb}
-use Rattle.machine.specs.Claims.{Exact}
+use Rattle.image.specs.Claims.{Exact}
 use Rattle.answer.specs.Answer.{given, refused}
-use Rattle.machine.specs.Fields.{statusFields, fieldsOf, numbered, sameFields, accepted, threadOf}
-use Rattle.machine.specs.Status.{carriesInRange}
-use Rattle.machine.specs.Types.{Status, Idle, Running, Ended, Trapped, Waiting, Thread, Fields}
+use Rattle.image.specs.Fields.{statusFields, fieldsOf, numbered, sameFields, accepted, threadOf}
+use Rattle.image.specs.Types.{Status, Idle, Running, Ended, Trapped, Waiting, Fields}
 use Rattle.machine.proofs.Tests.{both}
 
 -- the numbers of a status name it
 named : (s : Status) → numbered (statusFields s) ≡ some s
@@ -39,19 +38,15 @@ pub exact : Exact
 unfolding threadOf accepted
 exact f e = (there (numbered f), back)
   where
-    picked : (s : Status) (b : Bool) → (sameFields (statusFields s) f && carriesInRange s) ≡ b → cond b (given (record { status = s })) (refused 4) ≡ given e
-        → (fieldsOf e ≡ f) × (carriesInRange (e .status) ≡ true)
-    picked s true h g =
-        let a = both (sameFields (statusFields s) f) (carriesInRange s) h in
-        let q : record { status = s } ≡ e = cc in
-        (ap fieldsOf (sym q) ∙ same-fields (statusFields s) f (a .0), ap (λ (x : Thread). carriesInRange (x .status)) (sym q) ∙ a .1)
+    picked : (s : Status) (b : Bool) → sameFields (statusFields s) f ≡ b → cond b (given (record { status = s })) (refused 4) ≡ given e → fieldsOf e ≡ f
+    picked s true h g = let q : record { status = s } ≡ e = cc in ap fieldsOf (sym q) ∙ same-fields (statusFields s) f h
     picked s false h g = absurd (let z : _≡_ {A = ℕ} 0 1 = cc in omega arith)
 
-    there : (o : Option Status) → accepted f o ≡ given e → (fieldsOf e ≡ f) × (carriesInRange (e .status) ≡ true)
+    there : (o : Option Status) → accepted f o ≡ given e → fieldsOf e ≡ f
     there none h = absurd (let z : _≡_ {A = ℕ} 0 1 = cc in omega arith)
-    there (some s) h = picked s (sameFields (statusFields s) f && carriesInRange s) refl h
+    there (some s) h = picked s (sameFields (statusFields s) f) refl h
 
-    back : (fieldsOf e ≡ f) × (carriesInRange (e .status) ≡ true) → accepted f (numbered f) ≡ given e
+    back : fieldsOf e ≡ f → accepted f (numbered f) ≡ given e
     back h =
-        let a : accepted (fieldsOf e) (some (e .status)) ≡ given e = rw (same-self (fieldsOf e), h .1) in
-        sym (ap (λ g. accepted g (numbered g)) (h .0)) ∙ (ap (accepted (fieldsOf e)) (named (e .status)) ∙ a)
+        let a : accepted (fieldsOf e) (some (e .status)) ≡ given e = rw (same-self (fieldsOf e)) in
+        sym (ap (λ g. accepted g (numbered g)) h) ∙ (ap (accepted (fieldsOf e)) (named (e .status)) ∙ a)

@@ -1,10 +1,10 @@
--- `fields` meets its contract.
+-- `fields::fields_of` meets its contract.
 use borrow.Author.Needs.{needs}
-use Rattle.machine.proofs.status.Thread.fields.Statement.{statement}
-use Rattle.machine.proofs.status.Thread.fields.Tie as tie
+use Rattle.image.proofs.fields.fields_of.Statement.{statement}
+use Rattle.image.proofs.fields.fields_of.Tie as tie
 
-pub fields-spec : {M : Type 1} → statement M
-fields-spec =
+pub fields-of-spec : {M : Type 1} → statement M
+fields-of-spec =
     tie.close
     (tie.spec (λ c. search needs) (λ c κs. search needs) (λ c. search needs) (λ c κs. search needs) (λ c. search needs)
     (λ c κs. search needs) (λ c. search needs) (λ c κs. search needs) (λ c. search needs) (λ c κs. search needs)

@@ -4,8 +4,7 @@ use mathlib.Core.Bool.{Bool, _&&_, cond}
 use mathlib.Core.Option.{Option, none, some}
 use lib.Dec.{eqb}
 use Rattle.answer.specs.Answer.{Answer, given, refused, bad-record}
-use Rattle.machine.specs.Status.{carriesInRange}
-use Rattle.machine.specs.Types.{Status, Idle, Running, Ended, Trapped, Waiting, Thread, Fields}
+use Rattle.image.specs.Types.{Status, Idle, Running, Ended, Trapped, Waiting, Thread, Fields}
 
 -- the four numbers, by their places
 abbrev pub fields : ℕ → ℕ → ℕ → ℕ → Fields
@@ -35,10 +34,10 @@ abbrev pub sameFields : Fields → Fields → Bool
 sameFields a b =
     eqb (a .status) (b .status) && eqb (a .reason) (b .reason) && eqb (a .id) (b .id) && eqb (a .count) (b .count)
 
--- the entry, if the numbers are its own and in range: "a number in it is out of range, or an image field not carried is not 0"
+-- the entry, if the numbers are its own: not where "an image field not carried is not 0". Their ranges are those of a well-formed record.
 unfoldable pub accepted : Fields → Option Status → Answer Thread
 accepted f none = refused bad-record
-accepted f (some s) = cond (sameFields (statusFields s) f && carriesInRange s) (given (record { status = s })) (refused bad-record)
+accepted f (some s) = cond (sameFields (statusFields s) f) (given (record { status = s })) (refused bad-record)
 
 -- the entry that has these numbers
 unfoldable pub threadOf : Fields → Answer Thread

@@ -1,0 +1,80 @@
+// An entry as the numbers of the saved image, both ways.
+ghost use mathlib.Core.Option.{some};
+ghost use mathlib.Core.Path.{_≡_};
+ghost use Rattle.image.specs.Answer.{entryAnswered};
+ghost use Rattle.image.specs.Fields.{fields, sameFields, fieldsOf, accepted, threadOf};
+use machine::Status;
+use machine::Thread;
+
+// The numbers of an entry, 0 where its status does not carry them.
+pub struct Fields {
+    pub status: u8,
+    pub reason: u8,
+    pub id: u8,
+    pub count: u8,
+}
+
+// What an entry's numbers are read as.
+pub enum EntryReading {
+    Entry(Thread),
+    Refused,
+}
+
+// The numbers by their places.
+fn numbers(status: u8, reason: u8, id: u8, count: u8) -> Fields
+    ensures { λ r. ⌜ r ≡ fields status reason id count ⌝ }
+{
+    Fields {
+        status,
+        reason,
+        id,
+        count,
+    }
+}
+
+// Whether the numbers are the same.
+fn same_fields(a: Fields, b: Fields) -> bool
+    ensures { λ r. ⌜ r ≡ sameFields a b ⌝ }
+{
+    (a.status == b.status) & (a.reason == b.reason) & (a.id == b.id) & (a.count == b.count)
+}
+
+// The numbers of an entry.
+pub fn fields_of(thread: Thread) -> Fields
+    ensures { λ r. ⌜ r ≡ fieldsOf thread ⌝ }
+{
+    let status = thread.status;
+    match status {
+        Status::Idle => numbers(0, 0, 0, 0),
+        Status::Running => numbers(1, 0, 0, 0),
+        Status::Ended => numbers(2, 0, 0, 0),
+        Status::Trapped(reason) => numbers(3, reason, 0, 0),
+        Status::Waiting(id, count) => numbers(4, 0, id, count),
+    }
+}
+
+// The entry with a status, if the numbers are its own.
+fn accept(status: Status, fields: Fields) -> EntryReading
+    ensures { λ r. ⌜ entryAnswered r ≡ accepted fields (some status) ⌝ }
+{
+    let thread = Thread { status };
+    if same_fields(fields_of(thread), fields) {
+        return EntryReading::Entry(thread);
+    }
+    EntryReading::Refused
+}
+
+// The entry that has these numbers, if one has.
+pub fn read_entry(fields: Fields) -> EntryReading
+    ensures { λ r. ⌜ entryAnswered r ≡ threadOf fields ⌝ }
+{
+    let number = fields.status;
+    match number {
+        0 => accept(Status::Idle, fields),
+        1 => accept(Status::Running, fields),
+        2 => accept(Status::Ended, fields),
+        3 => accept(Status::Trapped(fields.reason), fields),
+        4 => accept(Status::Waiting(fields.id, fields.count), fields),
+        _ => EntryReading::Refused,
+    }
+}
