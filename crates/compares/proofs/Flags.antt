@@ -3,11 +3,11 @@ use mathlib.Core.Path.{_≡_, refl, sym, ap, ap₂, _∙_}
 use mathlib.Core.Bool.{Bool, true, false, cond, _&&_}
 use Prim.Native.Nat.{ℕ, zero, suc, _+_, _-_, _*_, _/_, _%_, _^_, _≤_, _<_}
 use native.Mathlib.Numerals.{add-one, one-add}
-use native.Mathlib.Nat.{pow-suc, one-mul, mod-lt, mod-eq-of-lt, div-eq-of-lt}
+use native.Mathlib.Nat.{pow-suc, one-mul, mod-lt, mod-eq-of-lt}
 use native.Mathlib.Omega.{arith}
 use lib.Bits.{bitAnd, bitOr, and-zero-l, and-comm, and-mask, and-le-l, and-mod, and-block, or-shifted-r, or-zero-r}
 use lib.Dec.{eqb, lit<}
-use lib.Pow.{pow-pos, pow-lt, pow-mono, shl-exact, mod-pow-add}
+use lib.Pow.{pow-pos, pow-lt, shl-exact, mod-pow-add}
 use Rattle.vector.specs.Lanes.{isOn}
 use Rattle.compares.specs.Lanes.{bits}
 use Rattle.compares.specs.Outcome.{flagsOf}

@@ -1,6 +1,4 @@
 -- Laws that belong to no one function.
-pub mod Digits
-pub mod Placing
 pub mod Lengths
 pub mod Sizes
 pub mod Shown

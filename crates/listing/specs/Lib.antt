@@ -1,4 +1,3 @@
 -- The listing of a program: what the contracts cite.
-pub mod Number
 pub mod Listing
 pub mod Buffer

@@ -9,7 +9,7 @@ use Rattle.names.specs.Name.{nameOf}
 use Rattle.isa.specs.Read.{read}
 use Rattle.isa.specs.Text.{bytes}
 use Rattle.isa.specs.declared.instruction.Instruction.{Instruction}
-use Rattle.listing.specs.Number.{hex, decimal}
+use Rattle.text.specs.Number.{hex, decimal}
 
 -- "words little endian": the word at a place of the input
 abbrev pub wordAt : List ℕ → ℕ → ℕ

@@ -1,10 +1,5 @@
-// What the lister prints for a program's bytes, put into a lent buffer; the bytes' words, and texts and numbers as others print them.
-mod buffer;
-mod number;
-mod text;
+// What the lister prints for a program's bytes, put into a lent buffer, and the bytes' words.
+mod print;
 
-pub use buffer::put_text;
-pub use number::hex_of;
-pub use number::put_decimal;
-pub use text::list;
-pub use text::words;
+pub use print::list;
+pub use print::words;

@@ -8,8 +8,8 @@ use lib.Dec.{eqb, lit≤}
 use lib.ListN.{length, length-append}
 use Rattle.execution.specs.Registers.{programCounter}
 use Rattle.isa.specs.Text.{bytes}
-use Rattle.listing.proofs.Lengths.{decimal-small}
-use Rattle.listing.specs.Buffer.{wrote, writes}
+use Rattle.text.proofs.Lengths.{decimal-small}
+use Rattle.text.specs.Buffer.{wrote, writes}
 use Rattle.machine.specs.Machine.{statusAt}
 use Rattle.report.proofs.Parts.{puts-whole}
 use Rattle.report.specs.Report.{reason, stateParts, lineParts, linesParts, bodyParts}

@@ -4,8 +4,8 @@ use mathlib.Core.List.{List, [], _∷_, _++_, append-assoc, append-nil}
 use mathlib.Core.Path.{_≡_, refl, _∙_, ap}
 use native.Mathlib.Omega.{arith}
 use lib.ListN.{length, length-append}
-use Rattle.listing.proofs.Placing.{puts-fits, writes-none}
-use Rattle.listing.specs.Buffer.{Wrote, wrote, writes, puts}
+use Rattle.text.proofs.Placing.{puts-fits, writes-none}
+use Rattle.text.specs.Buffer.{Wrote, wrote, writes, puts}
 use Rattle.report.specs.Text.{joined, putsAll}
 
 puts-append : (w : Wrote) (us ts : List (List ℕ)) → putsAll (putsAll w us) ts ≡ putsAll w (us ++ ts)

@@ -3,8 +3,8 @@ use Prim.Native.Nat.{ℕ, _≤_}
 use mathlib.Core.List.{List}
 use mathlib.Core.Path.{_≡_}
 use lib.ListN.{length}
-use Rattle.listing.proofs.Shown.{text-within}
-use Rattle.listing.specs.Buffer.{wrote, writes}
+use Rattle.text.proofs.Shown.{text-within}
+use Rattle.text.specs.Buffer.{wrote, writes}
 use Rattle.report.specs.Report.{report}
 use Rattle.report.specs.Types.{Run}
 

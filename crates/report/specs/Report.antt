@@ -6,7 +6,7 @@ use lib.Dec.{eqb}
 use Rattle.isa.specs.Text.{bytes}
 use Rattle.execution.specs.Registers.{programCounter}
 use Rattle.machine.specs.Machine.{statusAt}
-use Rattle.listing.specs.Number.{decimal}
+use Rattle.text.specs.Number.{decimal}
 use Rattle.report.specs.Text.{joined, counter}
 use Rattle.report.specs.Types.{RunAnswer, Stopped, Stuck, Spent, RunRefused, Run, Machine, Status, Idle, Running, Ended, Trapped, Waiting}
 

@@ -3,8 +3,8 @@ use Prim.Native.Nat.{ℕ, zero, suc, _+_, _/_, _%_}
 use mathlib.Core.Bool.{cond}
 use mathlib.Core.List.{List, [], _∷_, _++_}
 use lib.Dec.{ltb}
-use Rattle.listing.specs.Buffer.{Wrote, puts}
-use Rattle.listing.specs.Number.{hex}
+use Rattle.text.specs.Buffer.{Wrote, puts}
+use Rattle.text.specs.Number.{hex}
 
 -- the parts, one behind the other
 unfoldable pub joined : List (List ℕ) → List ℕ

@@ -1,15 +1,15 @@
 // The whole text: how the run ended, then a line a thread.
 ghost use mathlib.Core.Path.{_≡_};
 ghost use lib.ListN.{length};
-ghost use Rattle.listing.specs.Buffer.{wrote, writes};
+ghost use Rattle.text.specs.Buffer.{wrote, writes};
 ghost use Rattle.report.specs.Report.{linesParts, bodyParts, report};
 ghost use Rattle.report.specs.Text.{putsAll};
 use crate::thread_line::put_line;
 use interpreter::Run;
 use interpreter::RunAnswer;
-use listing::put_decimal;
-use listing::put_text;
 use machine::Machine;
+use text::put_decimal;
+use text::put_text;
 
 // The lines of the eight threads.
 fn put_lines(out: &mut [u8], at: usize, machine: Machine, registers: &[u32]) -> usize

@@ -1,13 +1,13 @@
 // The line of a thread.
 ghost use mathlib.Core.List.{[], _∷_};
 ghost use mathlib.Core.Path.{_≡_};
-ghost use Rattle.listing.specs.Buffer.{wrote, puts};
+ghost use Rattle.text.specs.Buffer.{wrote, puts};
 ghost use Rattle.report.specs.Report.{reason, barrierParts, stateParts, lineParts};
 ghost use Rattle.report.specs.Text.{counter, putsAll};
-use listing::hex_of;
-use listing::put_decimal;
-use listing::put_text;
 use machine::Status;
+use text::hex_of;
+use text::put_decimal;
+use text::put_text;
 
 // Why a thread trapped.
 fn put_reason(out: &mut [u8], at: usize, number: u8) -> usize

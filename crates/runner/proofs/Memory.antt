@@ -8,7 +8,7 @@ use borrow.Author.Tests.{ltb-false}
 use lib.Dec.{eqb, ltb}
 use lib.ListN.{length, take}
 use Rattle.answer.specs.Refusal.{badMemory}
-use Rattle.listing.proofs.Shown.{shown}
+use Rattle.text.proofs.Shown.{shown}
 use Rattle.listing.proofs.Sizes.{or-left, or-right}
 
 pub memory-small : (n : ℕ) → badMemory n ≡ false → n ≤ 65536

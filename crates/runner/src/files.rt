@@ -75,7 +75,7 @@ pub fn write_file(i: usize, bytes: &[u8]) -> bool {
     let length = os::arg(i, &mut path);
     // room for the longest name and the ending
     let mut part = [0u8; 4101];
-    let end = listing::put_text(&mut part, 0, &path[..length]);
-    let end = listing::put_text(&mut part, end, b".part");
+    let end = text::put_text(&mut part, 0, &path[..length]);
+    let end = text::put_text(&mut part, end, b".part");
     replace(&path[..length], &part[..end], bytes)
 }

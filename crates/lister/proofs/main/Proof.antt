@@ -2,7 +2,8 @@
 use borrow.Author.Needs.{needs}
 use Rattle.lister.proofs.main.Statement.{statement}
 use Rattle.lister.proofs.main.Tie as tie
-use Rattle.listing.proofs.Shown.{within, shown}
+use Rattle.listing.proofs.Shown.{within}
+use Rattle.text.proofs.Shown.{shown}
 
 pub main-spec : {M : Type 1} → statement M
 main-spec =

@@ -2,7 +2,7 @@
 use borrow.Author.Needs.{needs}
 use lib.ListN.{replicate}
 use mathlib.Core.Path.{sym, _∙_}
-use Rattle.listing.proofs.Shown.{shown}
+use Rattle.text.proofs.Shown.{shown}
 use Rattle.runner.proofs.Memory.{memory-small, part-small}
 use Rattle.runner.proofs.begin.Statement.{statement}
 use Rattle.runner.proofs.begin.Tie as tie

@@ -1,6 +1,6 @@
 -- `resume` is safe: an image has a memory of at most 65,536 bytes.
 use borrow.Author.Needs.{needs}
-use Rattle.listing.proofs.Shown.{shown}
+use Rattle.text.proofs.Shown.{shown}
 use Rattle.runner.proofs.Memory.{part-small}
 use Rattle.runner.proofs.resume.Statement.{statement}
 use Rattle.runner.proofs.resume.Tie as tie

@@ -1,6 +1,6 @@
 -- `run` is safe: what it prints is a part of the buffer.
 use borrow.Author.Needs.{needs}
-use Rattle.listing.proofs.Shown.{shown}
+use Rattle.text.proofs.Shown.{shown}
 use Rattle.report.proofs.Shown.{within}
 use Rattle.runner.proofs.run.Statement.{statement}
 use Rattle.runner.proofs.run.Tie as tie

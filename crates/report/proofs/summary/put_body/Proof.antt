@@ -2,12 +2,12 @@
 use borrow.Author.Needs.{needs}
 use mathlib.Core.List.{[], _∷_, _++_}
 use Rattle.isa.specs.Text.{bytes}
-use Rattle.listing.specs.Buffer.{wrote}
+use Rattle.text.specs.Buffer.{wrote}
 use Rattle.report.proofs.Parts.{after}
 use Rattle.report.proofs.summary.put_body.Statement.{statement}
 use Rattle.report.proofs.summary.put_body.Tie as tie
 use Rattle.report.specs.Report.{linesParts}
-use Rattle.listing.specs.Number.{decimal}
+use Rattle.text.specs.Number.{decimal}
 
 returns : tie.Need-returns
 unfolding bytes

@@ -6,7 +6,7 @@ use native.Mathlib.Omega.{arith}
 use borrow.Author.Needs.{needs}
 use lib.ListN.{length}
 use Rattle.execution.specs.Registers.{programCounter}
-use Rattle.listing.specs.Buffer.{wrote}
+use Rattle.text.specs.Buffer.{wrote}
 use Rattle.machine.specs.Machine.{statusAt}
 use Rattle.report.proofs.Parts.{after}
 use Rattle.report.proofs.summary.put_lines.Statement.{statement}

@@ -3,7 +3,7 @@ use borrow.Author.Needs.{needs}
 use mathlib.Core.Path.{_∙_}
 use lib.Dec.{lit≤}
 use Rattle.isa.specs.Text.{bytes}
-use Rattle.listing.proofs.Placing.{writes-none}
+use Rattle.text.proofs.Placing.{writes-none}
 use Rattle.report.proofs.Lengths.{body-whole}
 use Rattle.report.proofs.summary.write_report.Statement.{statement}
 use Rattle.report.proofs.summary.write_report.Tie as tie

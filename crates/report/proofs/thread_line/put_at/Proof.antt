@@ -1,7 +1,7 @@
 -- `put_at` meets its contract: a part behind a part.
 use borrow.Author.Needs.{needs}
 use mathlib.Core.List.{[], _∷_}
-use Rattle.listing.specs.Buffer.{wrote}
+use Rattle.text.specs.Buffer.{wrote}
 use Rattle.report.proofs.Parts.{after}
 use Rattle.report.specs.Text.{counter}
 use Rattle.report.proofs.thread_line.put_at.Statement.{statement}

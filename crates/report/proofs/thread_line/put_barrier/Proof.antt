@@ -2,9 +2,9 @@
 use borrow.Author.Needs.{needs}
 use mathlib.Core.List.{[], _∷_, _++_}
 use Rattle.isa.specs.Text.{bytes}
-use Rattle.listing.specs.Buffer.{wrote}
+use Rattle.text.specs.Buffer.{wrote}
 use Rattle.report.proofs.Parts.{after}
-use Rattle.listing.specs.Number.{decimal}
+use Rattle.text.specs.Number.{decimal}
 use Rattle.report.proofs.thread_line.put_barrier.Statement.{statement}
 use Rattle.report.proofs.thread_line.put_barrier.Tie as tie
 

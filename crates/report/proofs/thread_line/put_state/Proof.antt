@@ -2,7 +2,7 @@
 use borrow.Author.Needs.{needs}
 use mathlib.Core.List.{[], _∷_, _++_}
 use Rattle.isa.specs.Text.{bytes}
-use Rattle.listing.specs.Buffer.{wrote}
+use Rattle.text.specs.Buffer.{wrote}
 use Rattle.report.proofs.Parts.{after}
 use Rattle.report.specs.Report.{reason, barrierParts}
 use Rattle.report.specs.Text.{counter}

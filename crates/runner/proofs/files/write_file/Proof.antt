@@ -1,7 +1,7 @@
 -- `write_file` is safe: the other name is a part of its buffer.
 use borrow.Author.Needs.{needs}
 use native.Mathlib.Omega.{arith}
-use Rattle.listing.proofs.Shown.{shown, put-within}
+use Rattle.text.proofs.Shown.{shown, put-within}
 use Rattle.runner.proofs.files.write_file.Statement.{statement}
 use Rattle.runner.proofs.files.write_file.Tie as tie
 

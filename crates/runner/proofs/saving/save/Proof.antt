@@ -1,6 +1,6 @@
 -- `save` is safe: the image of an allowed memory fits its buffer.
 use borrow.Author.Needs.{needs}
-use Rattle.listing.proofs.Shown.{shown}
+use Rattle.text.proofs.Shown.{shown}
 use Rattle.runner.proofs.saving.save.Statement.{statement}
 use Rattle.runner.proofs.saving.save.Tie as tie
 

@@ -1,0 +1,5 @@
+-- Laws that belong to no one function.
+pub mod Digits
+pub mod Placing
+pub mod Lengths
+pub mod Shown
