@@ -1,9 +1,10 @@
 -- When the table gives a number (document 01, "Numbers given back").
-use Prim.Native.Nat.{ℕ, _%_}
+use Prim.Native.Nat.{ℕ, _+_, _*_, _/_, _%_}
 use mathlib.Core.Bool.{Bool, _||_, not, cond}
 use mathlib.Core.List.{List, [], _∷_}
 use mathlib.Core.Option.{Option, none, some}
 use lib.Dec.{ltb, eqb}
+use Rattle.answer.specs.Answer.{bad-registers, bad-memory, bad-length}
 use Rattle.answer.specs.declared.refusal.Verdict.{Verdict}
 use Rattle.answer.specs.declared.refusal.Verdict.the-variants.{Accepted, Refused}
 
@@ -23,6 +24,14 @@ badMemory bytes = ltb bytes 64 || ltb 65536 bytes || not (eqb (bytes % 64) 0)
 abbrev pub badMask : ℕ → Bool
 badMask mask = eqb mask 0 || ltb 255 mask
 
+-- "36,948 + 68 x (memory length / 64)"
+abbrev pub imageLength : ℕ → ℕ
+imageLength bytes = 36948 + 68 * (bytes / 64)
+
+-- "image length differs from 36,948 + 68 x (memory length / 64)"
+abbrev pub badLength : ℕ → ℕ → Bool
+badLength bytes size = not (eqb size (imageLength bytes))
+
 -- a number of the table, and whether it applies
 pub record Check : Type 0 where
   pub number : ℕ
@@ -35,6 +44,17 @@ check number applies = record { number = number; applies = applies }
 unfoldable pub firstThatApplies : List Check → Option ℕ
 firstThatApplies [] = none
 firstThatApplies (c ∷ cs) = cond (c .applies) (some (c .number)) (firstThatApplies cs)
+
+-- what both calls of an image take: a register room of so many words, a memory and an image of so many bytes
+abbrev pub sizeChecks : ℕ → ℕ → ℕ → List Check
+sizeChecks room bytes size =
+    check bad-registers (badRegisters room)
+    ∷ check bad-memory (badMemory bytes)
+    ∷ check bad-length (badLength bytes size)
+    ∷ []
+
+unfoldable pub sizesNumber : ℕ → ℕ → ℕ → Option ℕ
+sizesNumber room bytes size = firstThatApplies (sizeChecks room bytes size)
 
 -- the number of a refused call, as the code says it
 abbrev pub numbered : Verdict → Option ℕ

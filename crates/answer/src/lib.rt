@@ -6,3 +6,4 @@ pub use refusal::bad_mask;
 pub use refusal::bad_memory;
 pub use refusal::bad_program;
 pub use refusal::bad_registers;
+pub use refusal::sizes_verdict;

@@ -1,6 +1,7 @@
 // What a call is refused for: the tests of document 01's table.
+ghost use Prim.Native.Nat.{_≤_};
 ghost use mathlib.Core.Path.{_≡_};
-ghost use Rattle.answer.specs.Refusal.{badProgram, badRegisters, badMemory, badMask};
+ghost use Rattle.answer.specs.Refusal.{badProgram, badRegisters, badMemory, badMask, badLength, numbered, sizesNumber};
 
 // What a call's checks say; Refused carries a number of the table.
 pub enum Verdict {
@@ -34,4 +35,31 @@ pub fn bad_mask(mask: u32) -> bool
     ensures { λ r. ⌜ r ≡ badMask mask ⌝ }
 {
     (mask == 0) | (255 < mask)
+}
+
+// Whether an image of so many bytes is not that of a memory of so many.
+fn bad_length(bytes: usize, size: usize) -> bool
+    requires { ⌜ bytes ≤ 65536 ⌝ }
+    ensures { λ r. ⌜ r ≡ badLength bytes size ⌝ }
+{
+    size != 36948 + 68 * (bytes / 64)
+}
+
+// The number that an image's call is refused with, if any: of the words of a register room, the bytes of a memory, and those of an image.
+pub fn sizes_verdict(room: usize, bytes: usize, size: usize) -> Verdict
+    ensures { λ r. ⌜ numbered r ≡ sizesNumber room bytes size ⌝ }
+{
+    let wrong_room = bad_registers(room);
+    let wrong_memory = bad_memory(bytes);
+    if wrong_room {
+        return Verdict::Refused(2);
+    }
+    if wrong_memory {
+        return Verdict::Refused(3);
+    }
+    let wrong_length = bad_length(bytes, size);
+    if wrong_length {
+        return Verdict::Refused(9);
+    }
+    Verdict::Accepted
 }

@@ -4,9 +4,8 @@ use mathlib.Core.List.{List, [], _∷_, _++_}
 use mathlib.Core.Option.{Option}
 use lib.ListN.{length}
 use Rattle.answer.specs.Answer.{bad-program, bad-registers, bad-memory}
-use Rattle.answer.specs.Refusal.{badProgram, badRegisters, badMemory, Check, check, firstThatApplies}
+use Rattle.answer.specs.Refusal.{badProgram, badRegisters, badMemory, Check, check, firstThatApplies, sizeChecks}
 use Rattle.image.specs.Opening.{openingChecks}
-use Rattle.image.specs.Refusal.{sizeChecks}
 
 -- "A call checks in the order 1, 2, 3, 5, 9, 10, 4": what a run takes of lengths,
 abbrev pub lengthChecks : ℕ → ℕ → ℕ → List Check

@@ -6,6 +6,7 @@ use crate::numbers::first_refusal;
 use crate::numbers::read_number;
 use crate::numbers::wide;
 use answer::Verdict;
+use answer::sizes_verdict;
 
 // Writes a machine's image.
 #[no_mangle]
@@ -17,7 +18,7 @@ pub extern "C" fn korvammel_image_write(
 ) -> u32
     ensures { λ r. ⌜ left r (now (buffer .exit)) ≡ writeCall (now (registers .entry)) (now (memory .entry)) (now (bytes .entry)) (now (buffer .entry)) ⌝ }
 {
-    let lengths = image::sizes_verdict(registers.len(), memory.len(), buffer.len());
+    let lengths = sizes_verdict(registers.len(), memory.len(), buffer.len());
     let opening = image::read_record(bytes);
     let content = opening.verdict;
     let machine = opening.machine;

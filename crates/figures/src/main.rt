@@ -104,7 +104,9 @@ fn load(registers: &mut [u32], word: u32, base: u32)
     let machine = started.machine;
     let run = interpreter::run(&[word], registers, &mut memory, machine, 1);
     let after = run.machine;
-    say_status(after.status_at(0));
+    let entry = after.threads[0];
+    let status = entry.status;
+    say_status(status);
 }
 
 // "0x70000000 alone, mask 7, budget 7: issues 0,1,2,0,1,2,0, spent." One issue at a time, so that each thread is seen.

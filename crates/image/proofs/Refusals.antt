@@ -1,15 +1,16 @@
 -- What a call has of its lengths and its record where the table gives it no number, and what it then gives.
 use Prim.Native.Nat.{ℕ, _*_, _/_, _%_, _≤_}
-use mathlib.Core.Bool.{Bool, true, false, cond, not}
+use mathlib.Core.Bool.{Bool, true, false, cond, _||_, not}
 use mathlib.Core.List.{List, [], _∷_, _++_}
 use mathlib.Core.Option.{Option, none, some}
 use mathlib.Core.Path.{_≡_, refl, sym, ap, _∙_}
 use native.Mathlib.Omega.{arith}
-use borrow.Author.Tests.{ltb-false, eqb-true, eq-eqb, not-false}
+use borrow.Author.Tests.{eqb-true, eq-eqb, not-false}
 use lib.Dec.{ltb, eqb}
 use lib.ListN.{length}
 use Rattle.answer.specs.Answer.{given, refused}
-use Rattle.answer.specs.Refusal.{badRegisters, badMemory, Check, check, firstThatApplies, refusedOr}
+use Rattle.answer.proofs.Lengths.{memory-most}
+use Rattle.answer.specs.Refusal.{badRegisters, badMemory, imageLength, badLength, Check, check, firstThatApplies, sizeChecks, sizesNumber, refusedOr}
 use Rattle.execution.specs.State.{State, state}
 use Rattle.machine.proofs.Tests.{neither}
 use Rattle.machine.specs.Machine.{zeroed}
@@ -17,7 +18,7 @@ use Rattle.machine.specs.WellFormed.{wellFormed}
 use Rattle.image.specs.Calls.{Writing, writing, writeRefusal, write, Reading, reading, readRefusal, read}
 use Rattle.image.specs.Image.{shapeOf, Lengths, image, recordIn, stateIn}
 use Rattle.image.specs.Layout.{ofBlocks, kinds, startOf, headsIn}
-use Rattle.image.specs.Refusal.{imageLength, badLength, sizeChecks, sizesNumber, writeNumber, contentNumber, recordChecks, recordsNumber, readNumber}
+use Rattle.image.specs.Refusal.{writeNumber, contentNumber, recordChecks, recordsNumber, readNumber}
 use Rattle.image.specs.Types.{Shape}
 use Rattle.image.proofs.Rows.{whole-length}
 
@@ -53,21 +54,11 @@ pub record Sized (room bytes size : ℕ) : Type 0 where
   pub memory : badMemory bytes ≡ false
   pub length : badLength bytes size ≡ false
 
-module _ (bytes : ℕ) (h : badMemory bytes ≡ false) where
-  memory-tests : (ltb bytes 64 ≡ false) × (ltb 65536 bytes ≡ false) × (eqb (bytes % 64) 0 ≡ true)
-  memory-tests =
-      let a = neither _ (not (eqb (bytes % 64) 0)) h in
-      let b = neither (ltb bytes 64) (ltb 65536 bytes) (a .0) in
-      (b .0, b .1, not-false (eqb (bytes % 64) 0) (a .1))
+pub memory-blocks : (bytes : ℕ) → badMemory bytes ≡ false → bytes / 64 ≤ 1024
+memory-blocks bytes h = omega (arith, memory-most bytes h)
 
-  pub memory-most : bytes ≤ 65536
-  memory-most = ltb-false 65536 bytes (memory-tests .1)
-
-  pub memory-blocks : bytes / 64 ≤ 1024
-  memory-blocks = omega (arith, memory-most)
-
-  pub memory-whole : 64 * (bytes / 64) ≡ bytes
-  memory-whole = omega (arith, eqb-true (bytes % 64) 0 (memory-tests .2))
+pub memory-whole : (bytes : ℕ) → badMemory bytes ≡ false → 64 * (bytes / 64) ≡ bytes
+memory-whole bytes h = omega (arith, eqb-true (bytes % 64) 0 (not-false (eqb (bytes % 64) 0) (neither (ltb bytes 64 || ltb 65536 bytes) (not (eqb (bytes % 64) 0)) h .1)))
 
 pub room-words : (room : ℕ) → badRegisters room ≡ false → room ≡ 8704
 room-words room h = eqb-true room 8704 (not-false (eqb room 8704) h)

@@ -8,7 +8,7 @@ use native.Mathlib.Nat.{le-of-eq}
 use native.Mathlib.Omega.{arith}
 use lib.ListN.{length}
 use Rattle.answer.specs.Answer.{Answer, given, refused}
-use Rattle.answer.specs.Refusal.{refusedOr}
+use Rattle.answer.specs.Refusal.{imageLength, sizesNumber, refusedOr}
 use Rattle.execution.specs.State.{State, state}
 use Rattle.machine.proofs.Tests.{both}
 use Rattle.machine.specs.Machine.{zeroed}
@@ -18,7 +18,7 @@ use Rattle.image.specs.Claims.{Bytes, WrittenThenRead, ReadThenWritten, 
 use Rattle.image.specs.Image.{shapeOf, image, isEntry, entryIn, machineIn, recordIn, stateIn}
 use Rattle.image.specs.Join.{allBelow}
 use Rattle.image.specs.Layout.{ofBlocks, headsIn}
-use Rattle.image.specs.Refusal.{imageLength, sizesNumber, recordsNumber}
+use Rattle.image.specs.Refusal.{recordsNumber}
 use Rattle.image.proofs.Refusals.{Sized, sized, sizes-none, long, lengths, room-words, words-room, length-good, write-good, write-taken, records-none, records-good, read-number, read-sized, read-taken}
 use Rattle.image.proofs.Restored.{image-back, registers-bound}
 use Rattle.image.proofs.Rooms.{registers-length, memory-length}

@@ -6,7 +6,7 @@ use mathlib.Core.Logic.{_↔_}
 use mathlib.Core.Path.{_≡_}
 use lib.ListN.{length, getD, take}
 use Rattle.answer.specs.Answer.{given}
-use Rattle.answer.specs.Refusal.{badMemory}
+use Rattle.answer.specs.Refusal.{badMemory, imageLength}
 use Rattle.execution.specs.Registers.{roomWords}
 use Rattle.execution.specs.State.{State}
 use Rattle.machine.specs.WellFormed.{wellFormed}
@@ -15,7 +15,6 @@ use Rattle.image.specs.Fields.{fieldsOf, threadOf}
 use Rattle.image.specs.Image.{shapeOf, bodyOf, image}
 use Rattle.image.specs.Layout.{kinds, rowOf, orderOf, startOf, bodyIn}
 use Rattle.image.specs.Opening.{recordBytes}
-use Rattle.image.specs.Refusal.{imageLength}
 use Rattle.image.specs.Types.{Kind, Hd, Th, Sr, Vr, Mm, Thread, Fields}
 
 -- every number of a list is a word, or a byte: what a lent slice of them says by its type

@@ -1,35 +1,15 @@
 -- Which number of the table a call gives back (document 01, "Numbers given back").
-use Prim.Native.Nat.{ℕ, _+_, _*_, _/_}
+use Prim.Native.Nat.{ℕ, _/_}
 use mathlib.Core.Bool.{Bool, not}
 use mathlib.Core.List.{List, [], _∷_, _++_}
 use mathlib.Core.Option.{Option}
-use lib.Dec.{eqb}
 use lib.ListN.{length}
-use Rattle.answer.specs.Answer.{bad-registers, bad-memory, bad-record, bad-length, bad-image}
-use Rattle.answer.specs.Refusal.{badRegisters, badMemory, Check, check, firstThatApplies}
+use Rattle.answer.specs.Answer.{bad-record, bad-image}
+use Rattle.answer.specs.Refusal.{Check, check, firstThatApplies, sizeChecks}
 use Rattle.machine.specs.WellFormed.{wellFormed}
 use Rattle.image.specs.Image.{recordIn}
 use Rattle.image.specs.Layout.{ofBlocks, headsIn}
 use Rattle.image.specs.Types.{Shape, Machine}
-
--- "36,948 + 68 x (memory length / 64)"
-abbrev pub imageLength : ℕ → ℕ
-imageLength bytes = 36948 + 68 * (bytes / 64)
-
--- "image length differs from 36,948 + 68 x (memory length / 64)"
-abbrev pub badLength : ℕ → ℕ → Bool
-badLength bytes size = not (eqb size (imageLength bytes))
-
--- what both calls take: a register room of so many words, a memory and an image of so many bytes
-abbrev pub sizeChecks : ℕ → ℕ → ℕ → List Check
-sizeChecks room bytes size =
-    check bad-registers (badRegisters room)
-    ∷ check bad-memory (badMemory bytes)
-    ∷ check bad-length (badLength bytes size)
-    ∷ []
-
-unfoldable pub sizesNumber : ℕ → ℕ → ℕ → Option ℕ
-sizesNumber room bytes size = firstThatApplies (sizeChecks room bytes size)
 
 -- "The writer's buffer has exactly the image's length (else 9).": with a record
 unfoldable pub writeNumber : ℕ → ℕ → ℕ → Machine → Option ℕ

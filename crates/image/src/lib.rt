@@ -17,5 +17,4 @@ pub use outcome::ReadAnswer;
 pub use outcome::WriteAnswer;
 pub use reading::read;
 pub use verdicts::Judgement;
-pub use verdicts::sizes_verdict;
 pub use writing::write;

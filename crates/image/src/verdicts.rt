@@ -7,48 +7,20 @@ ghost use Rattle.answer.specs.Refusal.{numbered, refusedOr};
 ghost use Rattle.machine.specs.Machine.{zeroed};
 ghost use Rattle.image.specs.Image.{machineIn};
 ghost use Rattle.image.specs.Layout.{ofBlocks, kinds, startOf};
-ghost use Rattle.image.specs.Refusal.{badLength, sizesNumber, contentNumber, recordsNumber, readNumber};
+ghost use Rattle.image.specs.Refusal.{contentNumber, recordsNumber, readNumber};
 use crate::entries::Record;
 use crate::entries::record_in;
 use crate::heads::kinds_stand;
 use crate::layout::KINDS;
 use crate::layout::Shape;
 use answer::Verdict;
-use answer::bad_memory;
-use answer::bad_registers;
+use answer::sizes_verdict;
 use machine::Machine;
 
 // The verdict on an image, and the machine record that it holds: the record with every number 0 where it is refused.
 pub struct Judgement {
     pub verdict: Verdict,
     pub machine: Machine,
-}
-
-// Whether an image of so many bytes is not that of a memory of so many.
-fn bad_length(bytes: usize, size: usize) -> bool
-    requires { ⌜ bytes ≤ 65536 ⌝ }
-    ensures { λ r. ⌜ r ≡ badLength bytes size ⌝ }
-{
-    size != 36948 + 68 * (bytes / 64)
-}
-
-// Of the words of a register room, the bytes of a memory, and the bytes of an image.
-pub fn sizes_verdict(room: usize, bytes: usize, size: usize) -> Verdict
-    ensures { λ r. ⌜ numbered r ≡ sizesNumber room bytes size ⌝ }
-{
-    let wrong_room = bad_registers(room);
-    let wrong_memory = bad_memory(bytes);
-    if wrong_room {
-        return Verdict::Refused(2);
-    }
-    if wrong_memory {
-        return Verdict::Refused(3);
-    }
-    let wrong_length = bad_length(bytes, size);
-    if wrong_length {
-        return Verdict::Refused(9);
-    }
-    Verdict::Accepted
 }
 
 // An image refused with a number.

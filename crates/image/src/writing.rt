@@ -18,8 +18,8 @@ use crate::layout::Shape;
 use crate::layout::kind_at;
 use crate::layout::row_of;
 use crate::outcome::WriteAnswer;
-use crate::verdicts::sizes_verdict;
 use answer::Verdict;
+use answer::sizes_verdict;
 use machine::Machine;
 
 // An entry's numbers stored from a place on.

@@ -46,7 +46,7 @@ impl Machine {
     }
 
     // The status of a thread; idle where there is no such thread.
-    pub fn status_at(self, thread: usize) -> Status
+    pub(crate) fn status_at(self, thread: usize) -> Status
         ensures { λ r. ⌜ r ≡ statusAt self thread ⌝ }
     {
         if 8 <= thread {

@@ -19,7 +19,8 @@ fn put_lines(out: &mut [u8], at: usize, machine: Machine, registers: &[u32]) -> 
     let mut next = at;
     let mut thread: usize = 0;
     while thread < 8 {
-        let status = machine.status_at(thread);
+        let entry = machine.threads[thread];
+        let status = entry.status;
         let pc = registers[64 * thread + 63];
         next = put_line(out, next, thread as u32, status, pc);
         thread += 1;

@@ -1,14 +1,13 @@
 -- `korvammel_image_write` meets its contract: by the verdict.
 use mathlib.Core.Path.{sym, ap, _∙_}
 use lib.ListN.{length}
-use Rattle.answer.specs.Refusal.{numbered}
+use Rattle.answer.specs.Refusal.{numbered, sizeChecks, sizesNumber}
 use Rattle.execution.specs.State.{state}
 use Rattle.image.proofs.Openings.{opening-well-formed}
 use Rattle.image.proofs.Refusals.{write-taken}
 use Rattle.image.specs.Calls.{write}
 use Rattle.image.specs.Image.{machineIn}
 use Rattle.image.specs.Opening.{noBlocks}
-use Rattle.image.specs.Refusal.{sizeChecks, sizesNumber}
 use Rattle.capi.specs.Answer.{left}
 use Rattle.capi.specs.Images.{writeCall}
 use Rattle.capi.specs.Refusal.{writeNumber}

@@ -15,10 +15,10 @@ use Rattle.report.specs.Report.{lineParts, linesParts}
 use Rattle.report.specs.Text.{putsAll}
 
 abbrev Inv-loop : tie.InvT-loop
-Inv-loop out₀ at machine registers next₀ thread₀ out next thread = (wrote next out ≡ putsAll (wrote at out₀) (linesParts machine registers thread)) × (thread ≤ 8) × (length out ≡ length out₀)
+Inv-loop out₀ at registers machine next₀ thread₀ out next thread = (wrote next out ≡ putsAll (wrote at out₀) (linesParts machine registers thread)) × (thread ≤ 8) × (length out ≡ length out₀)
 
 abbrev μ-loop : tie.MeasureT-loop
-μ-loop out₀ at machine registers next₀ thread₀ out next thread = 8 - thread
+μ-loop out₀ at registers machine next₀ thread₀ out next thread = 8 - thread
 
 loop-holds : tie.Need-loop-holds Inv-loop μ-loop
 unfolding linesParts
@@ -29,12 +29,11 @@ unfolding linesParts
 loop-again c =
     let x = c .before .before .before .before .before .before .before .before .before .before .args in
     let l = c .before .before .before .before .before .before .before .loop in
-    let m = x .machine in
-    let r = x .registers .now in
-    let s = c .before .before .before .before .before .status-at in (
+    let m = x .t3 in
+    let r = x .registers .now in (
       rw (add-one (l .thread))
           (after (wrote (x .at) (x .out .now)) (linesParts m r (l .thread)) (lineParts (l .thread) (statusAt m (l .thread)) (programCounter r (l .thread)))
-          (l .inv .0) (rw (s .ensures) at (c .before .before .put-line .ensures))),
+          (l .inv .0) (c .before .before .put-line .ensures)),
       omega arith,
       c .before .before .put-line .kept .0 ∙ l .inv .2,
     )
@@ -51,7 +50,8 @@ put-lines-spec =
     Inv-loop
     μ-loop
     loop-holds
-    (λ c κs. search needs)
+    (λ c. search needs)
+    (λ c. search needs)
     (λ c. omega arith)
     (λ c. omega arith)
     (λ c. omega arith)

@@ -1,11 +1,10 @@
--- `verdicts::sizes_verdict` meets its contract.
+-- `refusal::sizes_verdict` meets its contract.
 use mathlib.Core.Path.{sym, _∙_}
-use Rattle.answer.specs.Refusal.{firstThatApplies}
-use Rattle.image.specs.Refusal.{sizesNumber}
-use Rattle.image.proofs.Refusals.{memory-most}
+use Rattle.answer.specs.Refusal.{firstThatApplies, sizesNumber}
+use Rattle.answer.proofs.Lengths.{memory-most}
 use borrow.Author.Needs.{needs}
-use Rattle.image.proofs.verdicts.sizes_verdict.Statement.{statement}
-use Rattle.image.proofs.verdicts.sizes_verdict.Tie as tie
+use Rattle.answer.proofs.refusal.sizes_verdict.Statement.{statement}
+use Rattle.answer.proofs.refusal.sizes_verdict.Tie as tie
 
 pub sizes-verdict-spec : {M : Type 1} → statement M
 unfolding sizesNumber firstThatApplies
