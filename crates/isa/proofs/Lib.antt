@@ -9,4 +9,3 @@ pub mod Signed
 pub mod Formats
 pub mod RoundTrip
 pub mod Ranges
-pub mod Numbering
