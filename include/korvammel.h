@@ -53,12 +53,12 @@ extern "C" {
 /* Reads a word into the six numbers of its instruction. Answers 0, 7 or 8. */
 uint32_t korvammel_read_word(uint32_t word, uint32_t instruction[KORVAMMEL_INSTRUCTION]);
 
-/* Writes the word of an instruction. Answers 0 or 6: also where the numbers name no instruction, because a number is too large for
- * its field, no line of that format has the opcode, or a number that the format does not use is not 0. */
+/* Writes the word of an instruction. Answers 0 or 6: also where the numbers are those of no instruction, because a number is too large
+ * for its field, no line of that format has the opcode, or a number that the format does not use is not 0. */
 uint32_t korvammel_write_word(const uint32_t instruction[KORVAMMEL_INSTRUCTION], uint32_t *word);
 
-/* Puts an instruction's name, in ASCII with zeros behind it, and answers its length, 2 to 8. Whether the instruction has a word does
- * not matter. Where the numbers name no instruction it answers 0 and leaves `name`. */
+/* Puts an instruction's name, in ASCII with zeros behind it, and answers its length, 2 to 8. Where the instruction has no word, so that
+ * korvammel_write_word answers 6, it answers 0 and leaves `name`. */
 size_t korvammel_name(const uint32_t instruction[KORVAMMEL_INSTRUCTION], uint8_t name[8]);
 
 /* Starts the threads of a mask, bit t for thread t: clears the registers, sets every s59 to 0xFFFF, and writes the record. Answers 0,

@@ -1,15 +1,13 @@
--- Words and instructions, the latter as six numbers.
+-- Words, and the six numbers of their fields.
 use Prim.Native.Nat.{ℕ}
 use mathlib.Core.List.{List, [], _∷_}
-use mathlib.Core.Option.{Option, none, some}
 use lib.ListN.{length, getD}
-use Rattle.answer.specs.Answer.{Answer, refused, no-word}
-use Rattle.names.specs.Name.{nameOf, padded}
-use Rattle.isa.specs.Numbers.{numbers, numbersOf, named}
+use Rattle.answer.specs.Answer.{Answer, given, refused}
+use Rattle.fields.specs.Find.{Held, wordFor}
+use Rattle.fields.specs.Numbers.{numbers, numbersOf}
+use Rattle.fields.specs.declared.numbers.Numbers.{Numbers}
 use Rattle.isa.specs.Read.{read}
-use Rattle.isa.specs.Write.{write}
-use Rattle.isa.specs.declared.instruction.Instruction.{Instruction}
-use Rattle.isa.specs.declared.numbers.Numbers.{Numbers}
+use Rattle.names.specs.Name.{nameOf, padded}
 use Rattle.capi.specs.Answer.{Left, left, leaves}
 
 -- six numbers in the order of a list, both ways
@@ -19,22 +17,18 @@ listOf n = n .format ∷ n .opcode ∷ n .flags ∷ n .first ∷ n .second ∷ n
 abbrev pub numbersIn : List ℕ → Numbers
 numbersIn l = numbers (getD l 0 0) (getD l 1 0) (getD l 2 0) (getD l 3 0) (getD l 4 0) (getD l 5 0)
 
--- a word read: the numbers of its instruction
+-- a word read: its numbers, where it is read as an instruction
 unfoldable pub readWord : ℕ → List ℕ → Left (List ℕ)
-readWord w before = leaves (read w) (λ i. listOf (numbersOf i)) before
+readWord w before = leaves (read w) (λ i. listOf (numbersOf w)) before
 
--- an instruction written; numbers that name none have no word
-abbrev pub writeNamed : Option Instruction → Answer ℕ
-writeNamed none = refused no-word
-writeNamed (some i) = write i
-
+-- numbers written: the word whose numbers they are
 unfoldable pub writeWord : List ℕ → ℕ → Left ℕ
-writeWord l before = leaves (writeNamed (named (numbersIn l))) (λ w. w) before
+writeWord l before = leaves (wordFor (numbersIn l)) (λ h. h .word) before
 
--- the length of a name, and the name in eight bytes; 0 where numbers name no instruction
-abbrev pub nameNamed : Option Instruction → List ℕ → Left (List ℕ)
-nameNamed none before = left 0 before
-nameNamed (some i) before = left (length (nameOf i)) (padded 8 (nameOf i))
+-- the length of the name of what that word is read as, and the name in eight bytes; 0 where the numbers have no word
+abbrev pub named : Answer Held → List ℕ → Left (List ℕ)
+named (given h) before = left (length (nameOf (h .instruction))) (padded 8 (nameOf (h .instruction)))
+named (refused number) before = left 0 before
 
 unfoldable pub nameCall : List ℕ → List ℕ → Left (List ℕ)
-nameCall l before = nameNamed (named (numbersIn l)) before
+nameCall l before = named (wordFor (numbersIn l)) before

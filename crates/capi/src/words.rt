@@ -1,12 +1,10 @@
 // Words and instructions.
 ghost use mathlib.Core.Path.{_≡_};
-ghost use Rattle.isa.specs.Answer.{writing, naming};
 ghost use Rattle.capi.specs.Answer.{left};
-ghost use Rattle.capi.specs.Words.{listOf, numbersIn, readWord, writeNamed, writeWord, nameCall};
-use isa::Naming;
-use isa::Numbers;
+ghost use Rattle.capi.specs.Words.{listOf, numbersIn, readWord, writeWord, nameCall};
+use fields::Found;
+use fields::Numbers;
 use isa::Reading;
-use isa::Writing;
 
 // The six numbers stored.
 fn put_numbers(n: Numbers, list: &mut [u32; 6])
@@ -36,22 +34,12 @@ pub extern "C" fn korvammel_read_word(word: u32, instruction: &mut [u32; 6]) -> 
 {
     let reading = isa::read_word(word);
     match reading {
-        Reading::Defined(i) => {
-            put_numbers(isa::numbers_of(i), instruction);
+        Reading::Defined(_) => {
+            put_numbers(fields::split(word), instruction);
             0
         }
         Reading::Undefined => 7,
         Reading::NotFitted => 8,
-    }
-}
-
-// The word of what six numbers name.
-fn write_named(found: Naming) -> Writing
-    ensures { λ r. ⌜ writing r ≡ writeNamed (naming found) ⌝ }
-{
-    match found {
-        Naming::Named(i) => isa::write_word(i),
-        Naming::Unnamed => Writing::NoWord,
     }
 }
 
@@ -60,13 +48,16 @@ fn write_named(found: Naming) -> Writing
 pub extern "C" fn korvammel_write_word(instruction: &[u32; 6], word: &mut u32) -> u32
     ensures { λ r. ⌜ left r (now (word .exit)) ≡ writeWord (now (instruction .entry)) (now (word .entry)) ⌝ }
 {
-    let written = write_named(isa::of_numbers(numbers_in(instruction)));
-    match written {
-        Writing::Word(w) => {
+    let found = fields::find(numbers_in(instruction));
+    match found {
+        Found::Word {
+            word: w,
+            instruction: _,
+        } => {
             *word = w;
             0
         }
-        Writing::NoWord => 6,
+        Found::NoWord => 6,
     }
 }
 
@@ -75,14 +66,17 @@ pub extern "C" fn korvammel_write_word(instruction: &[u32; 6], word: &mut u32) -
 pub extern "C" fn korvammel_name(instruction: &[u32; 6], name: &mut [u8; 8]) -> usize
     ensures { λ r. ⌜ left r (now (name .exit)) ≡ nameCall (now (instruction .entry)) (now (name .entry)) ⌝ }
 {
-    let naming = isa::of_numbers(numbers_in(instruction));
-    match naming {
-        Naming::Named(i) => {
-            let found = names::name_of(i);
-            let bytes = found.bytes;
+    let found = fields::find(numbers_in(instruction));
+    match found {
+        Found::Word {
+            word: _,
+            instruction: i,
+        } => {
+            let spelled = names::name_of(i);
+            let bytes = spelled.bytes;
             *name = bytes;
-            found.len
+            spelled.len
         }
-        Naming::Unnamed => 0,
+        Found::NoWord => 0,
     }
 }

@@ -9,5 +9,4 @@ pub mod Signed
 pub mod Formats
 pub mod RoundTrip
 pub mod Ranges
-pub mod Numbering
 pub mod Sets

@@ -16,7 +16,7 @@ use Rattle.isa.proofs.Tables.{finds-R, finds-Movei, finds-J, finds-C, f
 use Rattle.answer.specs.Answer.{Answer, given, refused, undefined, not-fitted}
 use Rattle.isa.specs.Claims.{Exact, Apart}
 use Rattle.isa.specs.Layout.{bits, layoutR, layoutI, layoutMovei, layoutJ, layoutC, layoutM, cut, signed}
-use Rattle.isa.specs.Read.{read, readR, readI, readMovei, readJ, readC, readM, asR, asI, asMovei, asJ, asC, asM, listed}
+use Rattle.isa.specs.Read.{reads, read, readR, readI, readMovei, readJ, readC, readM, asR, asI, asMovei, asJ, asC, asM, listed}
 use Rattle.isa.specs.Rule.{allowsR, allowsI, allowsMovei, allowsJ, allowsC, allowsM}
 use Rattle.isa.specs.Table.{rowR, rowI, rowMovei, rowJ, rowC, rowM, tableR, tableMovei, tableJ, tableC, tableM}
 use Rattle.isa.specs.Types.{Instruction, R, I, Movei, J, C, M}
@@ -35,7 +35,7 @@ not-one n l e = let f = eqb-false n 1 e in omega arith
 
 -- The word of an instruction is read as it, by format.
 write-read : (i : Instruction) (w : ℕ) → write i ≡ given w → read w ≡ given i
-unfolding write readR readI readMovei readJ readC readM asR asI asMovei asJ asC asM listed
+unfolding write read readR readI readMovei readJ readC readM asR asI asMovei asJ asC asM listed
 write-read (R op flags d a b) w e =
     let l = laid-is layoutR refl (0b00 ∷ rowR op .opcode ∷ d ∷ a ∷ b ∷ 0 ∷ 0 ∷ flags ∷ 0 ∷ []) refl _ w e in
     let p : bits w 31 30 ≡ 0b00 = cc in
@@ -47,7 +47,7 @@ write-read (R op flags d a b) w e =
     let p4 : bits w 4 4 ≡ 0 = cc in
     let pf : bits w 3 1 ≡ flags = cc in
     let p0 : bits w 0 0 ≡ 0 = cc in
-    is-R w p ∙ rw (po, finds-R op, p4, p5, pd, pa, pb, pf, p0) (accept _ _ (refl, (refl, (l .allows, tt))))
+    is-R reads w p ∙ rw (po, finds-R op, p4, p5, pd, pa, pb, pf, p0) (accept _ _ (refl, (refl, (l .allows, tt))))
 write-read (I op flags d a immediate) w e =
     let l = laid-is layoutI refl (0b010 ∷ rowI op .opcode ∷ d ∷ a ∷ cut (2 ^ 8) immediate ∷ flags ∷ 0 ∷ []) refl _ w e in
     let p : bits w 31 29 ≡ 0b010 = cc in
@@ -58,7 +58,7 @@ write-read (I op flags d a immediate) w e =
     let pf : bits w 2 1 ≡ flags = cc in
     let p0 : bits w 0 0 ≡ 0 = cc in
     let s = signed-cut (2 ^ 8) immediate (and-right (allowsI op flags d) _ (l .allows)) in
-    is-I w p ∙ rw (po, finds-R op, pd, pa, pi, s, pf, p0) (accept _ _ (refl, (and-left _ _ (l .allows), tt)))
+    is-I reads w p ∙ rw (po, finds-R op, pd, pa, pi, s, pf, p0) (accept _ _ (refl, (and-left _ _ (l .allows), tt)))
 write-read (Movei op flag d immediate) w e =
     let l = laid-is layoutMovei refl (0b01100 ∷ rowMovei op .opcode ∷ d ∷ immediate ∷ flag ∷ 0 ∷ []) refl _ w e in
     let p : bits w 31 27 ≡ 0b01100 = cc in
@@ -67,7 +67,7 @@ write-read (Movei op flag d immediate) w e =
     let pi : bits w 17 2 ≡ immediate = cc in
     let pf : bits w 1 1 ≡ flag = cc in
     let p0 : bits w 0 0 ≡ 0 = cc in
-    is-Movei w p ∙ rw (po, finds-Movei op, pd, pi, pf, p0) (accept _ _ (refl, (l .allows, tt)))
+    is-Movei reads w p ∙ rw (po, finds-Movei op, pd, pi, pf, p0) (accept _ _ (refl, (l .allows, tt)))
 write-read (J op register offset) w e =
     let l = laid-is layoutJ refl (0b01110 ∷ rowJ op .opcode ∷ register ∷ cut (2 ^ 17) offset ∷ []) refl _ w e in
     let p : bits w 31 27 ≡ 0b01110 = cc in
@@ -75,7 +75,7 @@ write-read (J op register offset) w e =
     let pr : bits w 23 18 ≡ register = cc in
     let pi : bits w 17 0 ≡ cut (2 ^ 17) offset = cc in
     let s = signed-cut (2 ^ 17) offset (and-right (allowsJ op register offset) _ (l .allows)) in
-    is-J w p ∙ rw (po, finds-J op, pr, pi, s) (accept-one _ _ (and-left _ _ (l .allows)))
+    is-J reads w p ∙ rw (po, finds-J op, pr, pi, s) (accept-one _ _ (and-left _ _ (l .allows)))
 write-read (C op first second) w e =
     let l = laid-is layoutC refl (0b01111 ∷ rowC op .opcode ∷ first ∷ second ∷ 0 ∷ []) refl _ w e in
     let p : bits w 31 27 ≡ 0b01111 = cc in
@@ -83,7 +83,7 @@ write-read (C op first second) w e =
     let pr : bits w 23 18 ≡ first = cc in
     let ps : bits w 17 12 ≡ second = cc in
     let p0 : bits w 11 0 ≡ 0 = cc in
-    is-C w p ∙ rw (po, finds-C op, pr, ps, p0) (accept _ _ (refl, (l .allows, tt)))
+    is-C reads w p ∙ rw (po, finds-C op, pr, ps, p0) (accept _ _ (refl, (l .allows, tt)))
 write-read (M op register base offset) w e =
     let l = laid-is layoutM refl (0b10 ∷ rowM op .opcode ∷ register ∷ base ∷ cut (2 ^ 8) offset ∷ 0 ∷ 0 ∷ []) refl _ w e in
     let p : bits w 31 30 ≡ 0b10 = cc in
@@ -94,7 +94,7 @@ write-read (M op register base offset) w e =
     let p2 : bits w 2 1 ≡ 0 = cc in
     let p0 : bits w 0 0 ≡ 0 = cc in
     let s = signed-cut (2 ^ 8) offset (and-right (allowsM op register) _ (l .allows)) in
-    is-M w p ∙ rw (po, finds-M op, pr, pb, pi, s, p2, p0) (accept _ _ (refl, (and-left _ _ (l .allows), tt)))
+    is-M reads w p ∙ rw (po, finds-M op, pr, pb, pi, s, p2, p0) (accept _ _ (refl, (and-left _ _ (l .allows), tt)))
 
 -- A word that is read as an instruction is its word, by format.
 from-R : (w : ℕ) (i : Instruction) → w < 2 ^ 32 → bits w 31 30 ≡ 0b00 → readR w ≡ given i → write i ≡ given w

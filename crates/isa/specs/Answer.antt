@@ -1,8 +1,7 @@
 -- The cases of the code's answers, as values and numbers of document 01.
 use Prim.Native.Nat.{ℕ}
-use mathlib.Core.Option.{Option, none, some}
 use Rattle.answer.specs.Answer.{Answer, given, refused, no-word, undefined, not-fitted}
-use Rattle.isa.specs.Types.{Instruction, Reading, Defined, Undefined, NotFitted, Writing, Word, NoWord, Naming, Named, Unnamed}
+use Rattle.isa.specs.Types.{Instruction, Reading, Defined, Undefined, NotFitted, Writing, Word, NoWord}
 
 abbrev pub reading : Reading → Answer Instruction
 reading (Defined i) = given i
@@ -12,8 +11,3 @@ reading NotFitted = refused not-fitted
 abbrev pub writing : Writing → Answer ℕ
 writing (Word w) = given w
 writing NoWord = refused no-word
-
--- what six numbers name, if they name an instruction
-abbrev pub naming : Naming → Option Instruction
-naming (Named i) = some i
-naming Unnamed = none

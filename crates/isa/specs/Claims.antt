@@ -1,12 +1,10 @@
--- What is proved of the definitions: that reading and writing belong together, what a word has room for, and that numbers name instructions.
+-- What is proved of the definitions: that reading and writing belong together, and what a word has room for.
 use Prim.Native.Nat.{ℕ, _<_, _^_}
-use mathlib.Core.Option.{some}
 use mathlib.Core.Path.{_≡_}
 use mathlib.Core.Logic.{_↔_}
 use Rattle.answer.specs.Answer.{given}
-use Rattle.isa.specs.Numbers.{numbersOf, named}
 use Rattle.isa.specs.Read.{read}
-use Rattle.isa.specs.Types.{Instruction, R, I, Movei, J, C, M, Numbers}
+use Rattle.isa.specs.Types.{Instruction, R, I, Movei, J, C, M}
 use Rattle.isa.specs.Write.{write}
 
 -- "Words read into instructions and instructions written into words follow the same tables, with no other word accepted."
@@ -30,20 +28,3 @@ Ranged (M op register base offset) = (register < 64) × (base < 64)
 -- That holds of every instruction that a word is read as.
 unfoldable pub InRange : Type 0
 InRange = (w : ℕ) (i : Instruction) → w < 2 ^ 32 → read w ≡ given i → Ranged i
-
--- every field of an instruction that is not signed and no immediate is a byte: what the code's types say
-abbrev pub InBytes : Instruction → Type 0
-InBytes (R op flags d a b) = (flags < 256) × (d < 256) × (a < 256) × (b < 256)
-InBytes (I op flags d a immediate) = (flags < 256) × (d < 256) × (a < 256)
-InBytes (Movei op flag d immediate) = (flag < 256) × (d < 256)
-InBytes (J op register offset) = register < 256
-InBytes (C op first second) = (first < 256) × (second < 256)
-InBytes (M op register base offset) = (register < 256) × (base < 256)
-
--- The numbers of an instruction name it again,
-unfoldable pub NamedAgain : Type 0
-NamedAgain = (i : Instruction) → InBytes i → named (numbersOf i) ≡ some i
-
--- and no other numbers do.
-unfoldable pub NoOthers : Type 0
-NoOthers = (n : Numbers) (i : Instruction) → named n ≡ some i → numbersOf i ≡ n

@@ -9,5 +9,4 @@ pub mod Layout
 pub mod Rule
 pub mod Read
 pub mod Write
-pub mod Numbers
 pub mod Claims

@@ -77,13 +77,31 @@ readC w = listed (operationAt tableC (bits w 26 24)) (asC w) undefined
 unfoldable pub readM : ℕ → Answer Instruction
 readM w = listed (operationAt tableM (bits w 29 24)) (asM w) undefined
 
--- what a word is read as: by its format, which its upper bits say
+-- what a word is for each format, and where it has none
+pub record Formats (A : Type 0) : Type 0 where
+  pub r : A
+  pub i : A
+  pub movei : A
+  pub j : A
+  pub c : A
+  pub m : A
+  pub other : A
+
+-- what a word is by its format, which its upper bits say
+abbrev pub byFormat : {A : Type 0} → (ℕ → Formats A) → ℕ → A
+byFormat f w =
+    cond (eqb (bits w 31 30) 0b00) (f w .r)
+    (cond (eqb (bits w 31 29) 0b010) (f w .i)
+    (cond (eqb (bits w 31 27) 0b01100) (f w .movei)
+    (cond (eqb (bits w 31 27) 0b01110) (f w .j)
+    (cond (eqb (bits w 31 27) 0b01111) (f w .c)
+    (cond (eqb (bits w 31 30) 0b10) (f w .m)
+    (f w .other))))))
+
+abbrev pub reads : ℕ → Formats (Answer Instruction)
+reads w =
+    record { r = readR w; i = readI w; movei = readMovei w; j = readJ w; c = readC w; m = readM w; other = refused undefined }
+
+-- what a word is read as
 unfoldable pub read : ℕ → Answer Instruction
-read w =
-    cond (eqb (bits w 31 30) 0b00) (readR w)
-    (cond (eqb (bits w 31 29) 0b010) (readI w)
-    (cond (eqb (bits w 31 27) 0b01100) (readMovei w)
-    (cond (eqb (bits w 31 27) 0b01110) (readJ w)
-    (cond (eqb (bits w 31 27) 0b01111) (readC w)
-    (cond (eqb (bits w 31 30) 0b10) (readM w)
-    (refused undefined))))))
+read w = byFormat reads w

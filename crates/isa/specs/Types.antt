@@ -25,6 +25,3 @@ pub use Rattle.isa.specs.declared.instruction.Reading.{Reading}
 pub use Rattle.isa.specs.declared.instruction.Reading.the-variants.{Defined, Undefined, NotFitted}
 pub use Rattle.isa.specs.declared.instruction.Writing.{Writing}
 pub use Rattle.isa.specs.declared.instruction.Writing.the-variants.{Word, NoWord}
-pub use Rattle.isa.specs.declared.numbers.Numbers.{Numbers}
-pub use Rattle.isa.specs.declared.numbers.Naming.{Naming}
-pub use Rattle.isa.specs.declared.numbers.Naming.the-variants.{Named, Unnamed}

@@ -1,7 +1,6 @@
-// Instruction words of the house core: read into instructions, written from them, and held as numbers (document 01, "The words").
+// Instruction words of the house core: read into instructions, and written from them (document 01, "The words").
 mod field;
 mod instruction;
-mod numbers;
 mod opcode;
 mod pack;
 mod read;
@@ -21,9 +20,5 @@ pub use instruction::Reading;
 pub use instruction::StoreOp;
 pub use instruction::UnaryOp;
 pub use instruction::Writing;
-pub use numbers::Naming;
-pub use numbers::Numbers;
-pub use numbers::numbers_of;
-pub use numbers::of_numbers;
 pub use read::read_word;
 pub use write::write_word;

@@ -47,7 +47,7 @@ pub fn write_word(instruction: &[u32; 6], word: &mut u32) -> u32 {
     unsafe { korvammel_write_word(instruction.as_ptr(), word) }
 }
 
-/// The name, and nothing where the numbers name no instruction: the bytes then stay.
+/// The name, and nothing where the numbers have no word: the bytes then stay.
 pub fn name(instruction: &[u32; 6]) -> Option<Vec<u8>> {
     let mut bytes = [1; 8];
     let length = unsafe { korvammel_name(instruction.as_ptr(), bytes.as_mut_ptr()) };

@@ -86,10 +86,10 @@ pub fn writing(seed: u64, tally: &mut Tally) {
             assert_eq!((number, found), (0, w), "{n:?}");
             assert_eq!(library::name(&n), named(n).map(|i| word::name(i).into_bytes()), "name of {n:?}");
         }
-        None => assert_eq!((number, found), (6, 77), "{n:?}"),
-    }
-    if named(n).is_none() {
-        assert_eq!(library::name(&n), None, "name of {n:?}");
+        None => {
+            assert_eq!((number, found), (6, 77), "{n:?}");
+            assert_eq!(library::name(&n), None, "name of {n:?}");
+        }
     }
     tally.met(number);
 }

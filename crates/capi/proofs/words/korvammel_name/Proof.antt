@@ -1,6 +1,6 @@
--- `korvammel_name` meets its contract: by whether the numbers name an instruction.
+-- `korvammel_name` meets its contract: by whether the numbers have a word.
 use mathlib.Core.Path.{ap, _∙_}
-use Rattle.isa.specs.Numbers.{named}
+use Rattle.fields.specs.Find.{wordFor}
 use Rattle.capi.specs.Answer.{left}
 use Rattle.capi.specs.Words.{nameCall}
 use borrow.Author.Needs.{needs}
@@ -10,13 +10,13 @@ use Rattle.capi.proofs.words.korvammel_name.Tie as tie
 returns : tie.Need-returns
 unfolding nameCall
 returns c =
-    let e = c .before .before .before .before .before .of-numbers .ensures ∙ ap named (c .before .before .before .before .before .before .numbers-in .ensures) in
-    rw (← e, c .before .before .before .naming .given .1) (λ i. left (c .before .name-of .ensures i .len) (c .before .name-of .ensures i .bytes))
+    let e = c .before .before .before .before .before .find .ensures ∙ ap wordFor (c .before .before .before .before .before .before .numbers-in .ensures) in
+    rw (← e, c .before .before .before .found .given .1) (λ i. left (c .before .name-of .ensures i .len) (c .before .name-of .ensures i .bytes))
 
 returns-2 : tie.Need-returns-2
 unfolding nameCall
 returns-2 c =
-    let e = c .before .before .of-numbers .ensures ∙ ap named (c .before .before .before .numbers-in .ensures) in
+    let e = c .before .before .find .ensures ∙ ap wordFor (c .before .before .before .numbers-in .ensures) in
     rw (← e, c .enum-told .given .1)
 
 pub korvammel-name-spec : {M : Type 1} → statement M

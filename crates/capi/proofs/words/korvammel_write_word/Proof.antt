@@ -1,7 +1,7 @@
 -- `korvammel_write_word` meets its contract: by whether there is a word.
 use mathlib.Core.Path.{ap, _∙_}
-use Rattle.isa.specs.Numbers.{named}
-use Rattle.capi.specs.Words.{writeNamed, writeWord}
+use Rattle.fields.specs.Find.{wordFor}
+use Rattle.capi.specs.Words.{writeWord}
 use borrow.Author.Needs.{needs}
 use Rattle.capi.proofs.words.korvammel_write_word.Statement.{statement}
 use Rattle.capi.proofs.words.korvammel_write_word.Tie as tie
@@ -9,20 +9,19 @@ use Rattle.capi.proofs.words.korvammel_write_word.Tie as tie
 returns : tie.Need-returns
 unfolding writeWord
 returns c =
-    let e = c .before .before .before .write-named .ensures ∙ ap writeNamed (c .before .before .before .before .of-numbers .ensures ∙ ap named (c .before .before .before .before .before .numbers-in .ensures)) in
-    rw (← e, c .before .written .given .1)
+    let e = c .before .before .before .find .ensures ∙ ap wordFor (c .before .before .before .before .numbers-in .ensures) in
+    rw (← e, c .before .found .given .1)
 
 returns-2 : tie.Need-returns-2
 unfolding writeWord
 returns-2 c =
-    let e = c .before .before .write-named .ensures ∙ ap writeNamed (c .before .before .before .of-numbers .ensures ∙ ap named (c .before .before .before .before .numbers-in .ensures)) in
+    let e = c .before .before .find .ensures ∙ ap wordFor (c .before .before .before .numbers-in .ensures) in
     rw (← e, c .enum-told .given .1)
 
 pub korvammel-write-word-spec : {M : Type 1} → statement M
 korvammel-write-word-spec =
     tie.close
     (tie.spec
-    (λ c κs. search needs)
     (λ c κs. search needs)
     (λ c κs. search needs)
     (λ c. search needs)

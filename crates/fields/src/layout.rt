@@ -1,0 +1,155 @@
+// Words taken apart into numbers, and put together from them.
+use crate::numbers::Found;
+use crate::numbers::Numbers;
+use isa::Reading;
+ghost use Prim.Native.Nat.{_+_, _*_, _^_, _<_, _≤_};
+ghost use mathlib.Core.Path.{_≡_};
+ghost use Rattle.isa.specs.Layout.{bits, signed};
+ghost use Rattle.fields.specs.Find.{found, wordFor};
+ghost use Rattle.fields.specs.Numbers.{numbers, sameNumbers, numbersOf, wordOf};
+
+fn numbers_as(format: u32, opcode: u32, flags: u32, first: u32, second: u32, third: u32) -> Numbers
+    ensures { λ r. ⌜ r ≡ numbers format opcode flags first second third ⌝ }
+{
+    Numbers {
+        format,
+        opcode,
+        flags,
+        first,
+        second,
+        third,
+    }
+}
+
+// The signed field in bits 11-3: its sign bit says whether all bits above are 1.
+fn short_signed(w: u32) -> u32
+    ensures { λ r. ⌜ r ≡ signed (2 ^ 8) (bits w 11 3) ⌝ }
+{
+    let field = w / 8 % 512;
+    field + field / 256 * 0xFFFFFE00
+}
+
+// The signed field in bits 17-0.
+fn long_signed(w: u32) -> u32
+    ensures { λ r. ⌜ r ≡ signed (2 ^ 17) (bits w 17 0) ⌝ }
+{
+    let field = w % 0x40000;
+    field + field / 0x20000 * 0xFFFC0000
+}
+
+// The numbers of a word, by the format that its upper bits say.
+pub fn split(w: u32) -> Numbers
+    ensures { λ r. ⌜ r ≡ numbersOf w ⌝ }
+{
+    let opcode = w / 0x1000000;
+    let first = w / 0x40000 % 64;
+    let second = w / 0x1000 % 64;
+    let short = short_signed(w);
+    let long = long_signed(w);
+    if w / 0x40000000 == 0b00 {
+        return numbers_as(0, opcode % 64, w / 2 % 8, first, second, w / 0x40 % 64);
+    }
+    if w / 0x20000000 == 0b010 {
+        return numbers_as(1, opcode % 32, w / 2 % 4, first, second, short);
+    }
+    if w / 0x8000000 == 0b01100 {
+        return numbers_as(2, opcode % 8, w / 2 % 2, first, w / 4 % 65536, 0);
+    }
+    if w / 0x8000000 == 0b01110 {
+        return numbers_as(3, opcode % 8, 0, first, long, 0);
+    }
+    if w / 0x8000000 == 0b01111 {
+        return numbers_as(4, opcode % 8, 0, first, second, 0);
+    }
+    if w / 0x40000000 == 0b10 {
+        return numbers_as(5, opcode % 64, 0, first, second, short);
+    }
+    numbers_as(6, 0, 0, 0, 0, 0)
+}
+
+// A word from its format's bits, its opcode, its first field and the rest.
+fn place(format: u32, opcode: u32, first: u32, rest: u32) -> u32
+    requires { ⌜ (format + opcode * 0x1000000 + 0x1000000 ≤ 0x100000000) × (first < 64) × (rest < 0x40000) ⌝ }
+    ensures { λ r. ⌜ r ≡ format + opcode * 0x1000000 + first * 0x40000 + rest ⌝ }
+{
+    format + opcode * 0x1000000 + first * 0x40000 + rest
+}
+
+// The word with these numbers in its fields, each modulo what its field has room for; 0, which is undefined, where no format has the number.
+fn join(n: Numbers) -> u32
+    ensures { λ r. ⌜ r ≡ wordOf n ⌝ }
+{
+    let format = n.format;
+    let opcode = n.opcode;
+    let flags = n.flags;
+    let first = n.first % 64;
+    let second = n.second;
+    let third = n.third;
+    let register = second % 64 * 0x1000;
+    let short = third % 512 * 8;
+    if format == 0 {
+        return place(
+            0,
+            opcode % 64,
+            first,
+            register + third % 64 * 0x40 + flags % 8 * 2,
+        );
+    }
+    if format == 1 {
+        return place(
+            0x40000000,
+            opcode % 32,
+            first,
+            register + short + flags % 4 * 2,
+        );
+    }
+    if format == 2 {
+        return place(
+            0x60000000,
+            opcode % 8,
+            first,
+            second % 65536 * 4 + flags % 2 * 2,
+        );
+    }
+    if format == 3 {
+        return place(0x70000000, opcode % 8, first, second % 0x40000);
+    }
+    if format == 4 {
+        return place(0x78000000, opcode % 8, first, register);
+    }
+    if format == 5 {
+        return place(0x80000000, opcode % 64, first, register + short);
+    }
+    0
+}
+
+fn same_numbers(a: Numbers, b: Numbers) -> bool
+    ensures { λ r. ⌜ r ≡ sameNumbers a b ⌝ }
+{
+    (a.format == b.format)
+        & (a.opcode == b.opcode)
+        & (a.flags == b.flags)
+        & (a.first == b.first)
+        & (a.second == b.second)
+        & (a.third == b.third)
+}
+
+// The word whose numbers these are, where it is read as an instruction.
+pub fn find(n: Numbers) -> Found
+    ensures { λ r. ⌜ found r ≡ wordFor n ⌝ }
+{
+    let word = join(n);
+    let own = same_numbers(split(word), n);
+    let reading = isa::read_word(word);
+    match reading {
+        Reading::Defined(instruction) => {
+            if own {
+                Found::Word { word, instruction }
+            } else {
+                Found::NoWord
+            }
+        }
+        Reading::Undefined => Found::NoWord,
+        Reading::NotFitted => Found::NoWord,
+    }
+}
