@@ -2,7 +2,7 @@
 use Prim.Native.Nat.{ℕ}
 use mathlib.Core.List.{List}
 use Rattle.answer.specs.Refusal.{refusedOr}
-use Rattle.execution.specs.State.{state}
+use Rattle.machine.specs.State.{state}
 use Rattle.image.specs.Calls.{Reading, read}
 use Rattle.image.specs.Image.{image, machineIn}
 use Rattle.image.specs.Opening.{noBlocks, recordBytes}

@@ -14,7 +14,7 @@ use Rattle.execution.specs.Claims.{Performs, Lengths, Issues}
 use Rattle.execution.specs.Issue.{executeWord, afterMeeting, settle, settled, perform, issue}
 use Rattle.execution.specs.Jump.{inProgram}
 use Rattle.execution.specs.Registers.{programCounter}
-use Rattle.execution.specs.State.{State, state}
+use Rattle.machine.specs.State.{State, state}
 use Rattle.execution.specs.Types.{Effect, Stays, Traps, Ends, Meets, Meeting}
 
 -- what an issue makes of a state

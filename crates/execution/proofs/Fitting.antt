@@ -6,7 +6,7 @@ use lib.Dec.{leb, eqb}
 use borrow.Author.Tests.{leb-true, eqb-true, ltb-true}
 use Rattle.isa.proofs.Both.{and-left, and-right}
 use Rattle.execution.specs.Issue.{fits}
-use Rattle.execution.specs.Registers.{roomWords}
+use Rattle.machine.specs.State.{roomWords}
 
 pub fitting : (words room t : ℕ) → fits words room t ≡ true → (words ≤ 16384) × (room ≡ roomWords) × (t < 8)
 fitting words room t h =

@@ -4,7 +4,7 @@ use mathlib.Core.Path.{_≡_}
 use mathlib.Core.List.{List}
 use lib.ListN.{length}
 use Rattle.machine.specs.Claims.{Sound}
-use Rattle.execution.specs.State.{State}
+use Rattle.machine.specs.State.{State}
 use Rattle.execution.specs.Issue.{perform, issue}
 
 -- what an issue makes of the record

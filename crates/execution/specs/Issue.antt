@@ -14,8 +14,9 @@ use Rattle.execution.specs.Effect.{Executed, trapped, next, advanced, be
 use Rattle.execution.specs.Immediate.{moveImmediate}
 use Rattle.execution.specs.Jump.{inProgram, jump}
 use Rattle.execution.specs.Operation.{operateR, operateI}
-use Rattle.execution.specs.Registers.{programCounter, roomWords}
-use Rattle.execution.specs.State.{State, state}
+use Rattle.execution.specs.Registers.{programCounter}
+use Rattle.machine.specs.State.{roomWords}
+use Rattle.machine.specs.State.{State, state}
 use Rattle.execution.specs.Types.{Instruction, R, I, Movei, J, C, M, Effect, Stays, Traps, Ends, Meets, Machine, Meeting}
 
 -- what an instruction at address pc does, in a program of so many words

@@ -1,6 +1,5 @@
 -- One issue of a thread: the rules, and what the contracts cite.
 pub mod Types
-pub mod State
 pub mod Registers
 pub mod Operand
 pub mod Effect

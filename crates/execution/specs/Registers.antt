@@ -3,19 +3,9 @@ use Prim.Native.Nat.{ℕ, _+_, _*_, _<_}
 use mathlib.Core.List.{List}
 use mathlib.Core.Path.{_≡_}
 use lib.ListN.{length, getD, set}
+use Rattle.machine.specs.State.{roomWords, scalarPlace, lanePlace}
 use Rattle.vector.specs.Lanes.{tab, lane, blended}
 use Rattle.memory.specs.Operation.{each}
-
--- "Register room: 8,704 lent words."
-abbrev pub roomWords : ℕ
-roomWords = 8704
-
--- "Thread t (0..7), scalar i at 64t+i; vector i, lane j at 512+1024t+16i+j."
-abbrev pub scalarPlace : ℕ → ℕ → ℕ
-scalarPlace t i = 64 * t + i
-
-abbrev pub lanePlace : ℕ → ℕ → ℕ → ℕ
-lanePlace t i j = 512 + 1024 * t + 16 * i + j
 
 abbrev pub scalar : List ℕ → ℕ → ℕ → ℕ
 scalar room t i = getD room (scalarPlace t i) 0

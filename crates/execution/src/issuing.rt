@@ -6,7 +6,7 @@ ghost use lib.ListN.{length};
 ghost use Rattle.machine.specs.Barrier.{meet};
 ghost use Rattle.execution.specs.Issue.{afterMeeting, fits, perform, issue};
 ghost use Rattle.execution.specs.Registers.{InRoom};
-ghost use Rattle.execution.specs.State.{state};
+ghost use Rattle.machine.specs.State.{state};
 use crate::effect::Effect;
 use crate::execute;
 use crate::jump;

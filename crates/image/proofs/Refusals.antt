@@ -11,7 +11,7 @@ use lib.ListN.{length}
 use Rattle.answer.specs.Answer.{given, refused}
 use Rattle.answer.proofs.Lengths.{memory-most}
 use Rattle.answer.specs.Refusal.{badRegisters, badMemory, imageLength, badLength, Check, check, firstThatApplies, sizeChecks, sizesNumber, refusedOr}
-use Rattle.execution.specs.State.{State, state}
+use Rattle.machine.specs.State.{State, state}
 use Rattle.machine.proofs.Tests.{neither}
 use Rattle.machine.specs.Machine.{zeroed}
 use Rattle.machine.specs.WellFormed.{wellFormed}

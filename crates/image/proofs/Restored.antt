@@ -7,8 +7,8 @@ use native.Mathlib.Omega.{arith}
 use lib.ListN.{length, getD, take, drop}
 use lib.Seq.{take-at, drop-at, drop-drop, getD-take}
 use Rattle.answer.specs.Answer.{Answer, given, refused}
-use Rattle.execution.specs.Registers.{scalarPlace, lanePlace}
-use Rattle.execution.specs.State.{State, state}
+use Rattle.machine.specs.State.{scalarPlace, lanePlace}
+use Rattle.machine.specs.State.{State, state}
 use Rattle.image.proofs.Numbers.{exact}
 use Rattle.machine.proofs.Tests.{never}
 use Rattle.image.specs.Fields.{fieldsOf}

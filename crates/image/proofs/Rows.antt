@@ -7,7 +7,7 @@ use native.Mathlib.Numerals.{add-one}
 use native.Mathlib.Omega.{arith}
 use lib.ListN.{length, take, drop, length-append, length-drop}
 use lib.Seq.{length-take-le}
-use Rattle.execution.specs.State.{State}
+use Rattle.machine.specs.State.{State}
 use Rattle.image.specs.Bytes.{bytesOf}
 use Rattle.image.specs.Image.{shapeOf, Lengths, Suits, bodyOf, image}
 use Rattle.image.specs.Join.{total, joined}

@@ -10,8 +10,8 @@ use lib.Dec.{eqb, leb}
 use lib.ListN.{length, getD, take, drop, length-drop}
 use lib.Seq.{take-all, take-add, getD-drop}
 use Rattle.answer.specs.Answer.{given}
-use Rattle.execution.specs.Registers.{scalarPlace, lanePlace}
-use Rattle.execution.specs.State.{State, state}
+use Rattle.machine.specs.State.{scalarPlace, lanePlace}
+use Rattle.machine.specs.State.{State, state}
 use Rattle.image.proofs.Numbers.{exact}
 use Rattle.machine.proofs.Tests.{both}
 use Rattle.image.specs.Fields.{fieldsOf}

@@ -5,7 +5,7 @@ use mathlib.Core.Option.{Option}
 use lib.ListN.{length}
 use Rattle.answer.specs.Answer.{Answer, given, refused}
 use Rattle.answer.specs.Refusal.{refusedOr}
-use Rattle.execution.specs.State.{State, state}
+use Rattle.machine.specs.State.{State, state}
 use Rattle.machine.specs.Machine.{zeroed}
 use Rattle.image.specs.Answer.{writeAnswered, readAnswered}
 use Rattle.image.specs.Image.{shapeOf, image, stateIn}

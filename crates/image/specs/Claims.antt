@@ -7,8 +7,8 @@ use mathlib.Core.Path.{_≡_}
 use lib.ListN.{length, getD, take}
 use Rattle.answer.specs.Answer.{given}
 use Rattle.answer.specs.Refusal.{badMemory, imageLength}
-use Rattle.execution.specs.Registers.{roomWords}
-use Rattle.execution.specs.State.{State}
+use Rattle.machine.specs.State.{roomWords}
+use Rattle.machine.specs.State.{State}
 use Rattle.machine.specs.WellFormed.{wellFormed}
 use Rattle.image.specs.Calls.{writing, write, reading, read}
 use Rattle.image.specs.Fields.{fieldsOf, threadOf}

@@ -3,7 +3,7 @@ use Prim.Native.Nat.{ℕ}
 use mathlib.Core.List.{List, []}
 use mathlib.Core.Option.{Option}
 use Rattle.answer.specs.Refusal.{Check, firstThatApplies, numbered, refusedOr}
-use Rattle.execution.specs.State.{state}
+use Rattle.machine.specs.State.{state}
 use Rattle.machine.specs.Machine.{zeroed}
 use Rattle.image.specs.Image.{bodyOf, machineIn, recordIn}
 use Rattle.image.specs.Join.{joined}

@@ -2,7 +2,7 @@
 ghost use Prim.Native.Nat.{_+_, _<_, _≤_};
 ghost use mathlib.Core.Path.{_≡_};
 ghost use lib.ListN.{length};
-ghost use Rattle.execution.specs.State.{state};
+ghost use Rattle.machine.specs.State.{state};
 ghost use Rattle.image.specs.Calls.{written, write};
 ghost use Rattle.image.specs.Image.{shapeOf, Lengths, Suits, fieldBytes, bodyOf, image};
 ghost use Rattle.image.specs.Join.{Grown};

@@ -9,7 +9,7 @@ use native.Mathlib.Nat.{pow-zero, pow-succ', le-div-iff-mul-le, div-lt-iff-lt-mu
 use native.Mathlib.Omega.{arith}
 use borrow.Author.Tests.{eq-eqb}
 use lib.Pow.{pow-pos}
-use Rattle.execution.specs.State.{State}
+use Rattle.machine.specs.State.{State}
 use Rattle.machine.proofs.Claims.{tested, enabled, chooses}
 use Rattle.machine.proofs.Tests.{never}
 use Rattle.machine.specs.Claims.{FirstAfterLast}

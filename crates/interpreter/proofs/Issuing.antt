@@ -8,7 +8,7 @@ use lib.ListN.{length}
 use Rattle.answer.specs.Answer.{given}
 use Rattle.execution.proofs.Claims.{performs, issues as execution-issues}
 use Rattle.execution.specs.Issue.{issue}
-use Rattle.execution.specs.State.{State, state}
+use Rattle.machine.specs.State.{State, state}
 use Rattle.machine.proofs.Claims.{chooses, issues as machine-issues}
 use Rattle.machine.specs.Claims.{Sound}
 use Rattle.machine.specs.Scheduler.{choice, withLast}

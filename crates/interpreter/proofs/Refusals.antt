@@ -9,7 +9,7 @@ use borrow.Author.Tests.{ltb-false, eqb-true, eqb-false, not-false}
 use lib.Dec.{ltb, eqb}
 use lib.ListN.{length}
 use Rattle.answer.specs.Answer.{given, refused}
-use Rattle.execution.specs.State.{State}
+use Rattle.machine.specs.State.{State}
 use Rattle.machine.proofs.Tests.{neither}
 use Rattle.machine.specs.Machine.{zeroed, start as startRecord}
 use Rattle.machine.specs.WellFormed.{wellFormed}

@@ -5,7 +5,7 @@ use mathlib.Core.Path.{_≡_, refl, ap}
 use native.Mathlib.Numerals.{add-one}
 use native.Mathlib.Omega.{arith}
 use lib.ListN.{length, set}
-use Rattle.execution.specs.Registers.{scalarPlace}
+use Rattle.machine.specs.State.{scalarPlace}
 use Rattle.interpreter.specs.Start.{zeroes, withMasks}
 
 -- the room with its first i words 0

@@ -13,7 +13,7 @@ use Rattle.machine.specs.Machine.{zeroed, start as startRecord}
 use Rattle.interpreter.specs.Claims.{Starts, StartRooms}
 use Rattle.answer.specs.Refusal.{refusedOr}
 use Rattle.interpreter.specs.Refusal.{startNumber}
-use Rattle.execution.specs.Registers.{scalarPlace}
+use Rattle.machine.specs.State.{scalarPlace}
 use Rattle.interpreter.specs.Start.{Beginning, zeroes, withMasks, start}
 use Rattle.interpreter.proofs.Refusals.{start-taken, start-accepted}
 

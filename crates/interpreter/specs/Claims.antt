@@ -5,12 +5,12 @@ use mathlib.Core.List.{List, _++_}
 use mathlib.Core.Path.{_≡_}
 use lib.ListN.{length, getD}
 use Rattle.answer.specs.Answer.{given}
-use Rattle.execution.specs.State.{State}
+use Rattle.machine.specs.State.{State}
 use Rattle.machine.specs.WellFormed.{wellFormed}
 use Rattle.interpreter.specs.Answer.{spent}
 use Rattle.interpreter.specs.Demand.{enabledThreads}
 use Rattle.interpreter.specs.Run.{runIssues, runReached, runAnswer}
-use Rattle.execution.specs.Registers.{scalarPlace}
+use Rattle.machine.specs.State.{scalarPlace}
 use Rattle.interpreter.specs.Start.{start}
 use Rattle.interpreter.specs.Types.{Machine}
 

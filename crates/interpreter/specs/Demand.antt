@@ -5,7 +5,7 @@ use mathlib.Core.List.{List, [], _∷_, _++_}
 use mathlib.Core.Path.{_≡_}
 use lib.Dec.{eqb}
 use lib.ListN.{length, take}
-use Rattle.execution.specs.State.{State}
+use Rattle.machine.specs.State.{State}
 use Rattle.machine.specs.Machine.{bit, countThreads}
 use Rattle.machine.specs.Scheduler.{runs}
 use Rattle.machine.specs.WellFormed.{wellFormed}

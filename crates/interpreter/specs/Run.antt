@@ -4,7 +4,7 @@ use mathlib.Core.List.{List, []}
 use mathlib.Core.Option.{Option}
 use lib.ListN.{length}
 use Rattle.answer.specs.Answer.{Answer, given, refused}
-use Rattle.execution.specs.State.{State, state}
+use Rattle.machine.specs.State.{State, state}
 use Rattle.interpreter.specs.Answer.{Ending, answered}
 use Rattle.interpreter.specs.Choosing.{Issue, issues, reached, endingAt}
 use Rattle.answer.specs.Refusal.{refusedOr}

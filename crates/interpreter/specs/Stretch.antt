@@ -4,7 +4,7 @@ use mathlib.Core.Bool.{Bool, true, false, cond}
 use mathlib.Core.List.{List, []}
 use mathlib.Core.Path.{_≡_}
 use lib.ListN.{length}
-use Rattle.execution.specs.State.{State}
+use Rattle.machine.specs.State.{State}
 use Rattle.interpreter.specs.Answer.{spent}
 use Rattle.interpreter.specs.Choosing.{issues, reached, idleEnding, endingAt}
 use Rattle.interpreter.specs.Types.{Stretch}

@@ -5,7 +5,7 @@ ghost use mathlib.Core.Path.{_≡_};
 ghost use lib.ListN.{length};
 ghost use Rattle.answer.specs.Answer.{given};
 ghost use Rattle.answer.specs.Refusal.{numbered};
-ghost use Rattle.execution.specs.State.{state};
+ghost use Rattle.machine.specs.State.{state};
 ghost use Rattle.interpreter.specs.Answer.{stopped, stuck, spent, answered};
 ghost use Rattle.interpreter.specs.Choosing.{idleEnding};
 ghost use Rattle.interpreter.specs.Refusal.{runNumber};

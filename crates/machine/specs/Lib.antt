@@ -3,6 +3,7 @@ pub mod Types
 pub mod Search
 pub mod Status
 pub mod Machine
+pub mod State
 pub mod WellFormed
 pub mod Scheduler
 pub mod Barrier

@@ -10,8 +10,8 @@ use crate::status::Thread;
 // A bit of `enabled` for each thread, the thread issued last, and an entry for each thread.
 pub struct Machine {
     pub enabled: u8,
-    pub last: u8,
     pub threads: [Thread; 8],
+    pub last: u8,
 }
 
 // Whether a thread's bit in a mask is 0.

@@ -2,7 +2,7 @@
 use mathlib.Core.Path.{sym, ap, _∙_}
 use lib.ListN.{length}
 use Rattle.answer.specs.Refusal.{numbered, sizeChecks, sizesNumber}
-use Rattle.execution.specs.State.{state}
+use Rattle.machine.specs.State.{state}
 use Rattle.image.proofs.Openings.{opening-well-formed}
 use Rattle.image.proofs.Refusals.{write-taken}
 use Rattle.image.specs.Calls.{write}

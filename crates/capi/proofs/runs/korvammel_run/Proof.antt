@@ -3,7 +3,7 @@ use mathlib.Core.List.{[], _∷_}
 use mathlib.Core.Path.{sym, ap, _∙_}
 use lib.ListN.{length}
 use Rattle.answer.specs.Refusal.{numbered}
-use Rattle.execution.specs.State.{state}
+use Rattle.machine.specs.State.{state}
 use Rattle.interpreter.specs.Run.{run}
 use Rattle.capi.specs.Refusal.{lengthChecks, lengthsNumber, runNumber}
 use Rattle.capi.specs.Runs.{ran, runCall}

@@ -4,7 +4,8 @@ use Prim.Native.Nat.{_-_}
 use borrow.Author.Needs.{needs}
 use lib.ListN.{set, length-set}
 use Rattle.vector.specs.Lanes.{lane}
-use Rattle.execution.specs.Registers.{lanePlace, withVector}
+use Rattle.execution.specs.Registers.{withVector}
+use Rattle.machine.specs.State.{lanePlace}
 use Rattle.memory.proofs.Stepping.{Stepping, start, more, whole}
 use Rattle.execution.proofs.registers.set_vector.Statement.{statement}
 use Rattle.execution.proofs.registers.set_vector.Tie as tie

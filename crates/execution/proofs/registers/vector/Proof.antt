@@ -4,7 +4,8 @@ use Prim.Native.Nat.{_-_}
 use borrow.Author.Needs.{needs}
 use lib.ListN.{getD}
 use Rattle.vector.proofs.Filling.{Filling, start, more, whole}
-use Rattle.execution.specs.Registers.{lanePlace, vector}
+use Rattle.execution.specs.Registers.{vector}
+use Rattle.machine.specs.State.{lanePlace}
 use Rattle.execution.proofs.registers.vector.Statement.{statement}
 use Rattle.execution.proofs.registers.vector.Tie as tie
 

@@ -4,7 +4,7 @@ use native.Mathlib.Nat.{le-of-eq}
 use lib.ListN.{length}
 use Rattle.answer.specs.Answer.{given, refused}
 use Rattle.answer.specs.Refusal.{numbered, refusedOr}
-use Rattle.execution.specs.State.{state}
+use Rattle.machine.specs.State.{state}
 use Rattle.machine.specs.Machine.{zeroed}
 use Rattle.image.specs.Calls.{reading}
 use Rattle.image.specs.Image.{shapeOf, machineIn}

@@ -2,7 +2,7 @@
 use Prim.Native.Nat.{_+_, _*_, _/_, _%_}
 use mathlib.Core.Path.{_≡_, ap}
 use lib.ListN.{drop, length-set}
-use Rattle.execution.specs.Registers.{scalarPlace, lanePlace}
+use Rattle.machine.specs.State.{scalarPlace, lanePlace}
 use Rattle.image.specs.Bytes.{bytesOf}
 use Rattle.image.specs.Image.{fieldBytes}
 use Rattle.image.proofs.Join.{grown-new}

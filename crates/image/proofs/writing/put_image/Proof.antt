@@ -1,7 +1,7 @@
 -- `writing::put_image` meets its contract.
 use Prim.Native.Nat.{_-_, _≤_}
 use mathlib.Core.Path.{ap, _∙_}
-use Rattle.execution.specs.State.{State, state}
+use Rattle.machine.specs.State.{State, state}
 use Rattle.image.specs.Image.{shapeOf, bodyOf, image}
 use Rattle.image.specs.Join.{joined, Grown}
 use Rattle.image.specs.Layout.{kinds, kindAt, rowOf, sectionOf, laidOut}

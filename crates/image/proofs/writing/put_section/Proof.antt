@@ -1,7 +1,7 @@
 -- `writing::put_section` meets its contract.
 use Prim.Native.Nat.{_-_, _≤_, _<_}
 use mathlib.Core.Path.{_≡_, ap}
-use Rattle.execution.specs.State.{State, state}
+use Rattle.machine.specs.State.{State, state}
 use Rattle.image.specs.Image.{shapeOf, bodyOf}
 use Rattle.image.specs.Join.{joined, Grown}
 use Rattle.image.specs.Layout.{rowOf, recordSize, recordOf, sectionOf}

@@ -4,7 +4,7 @@ use borrow.Author.Tests.{not-true, not-false}
 use lib.ListN.{length}
 use Rattle.answer.specs.Answer.{given}
 use Rattle.answer.specs.Refusal.{numbered}
-use Rattle.execution.specs.State.{State, state}
+use Rattle.machine.specs.State.{State, state}
 use Rattle.image.specs.Calls.{writing}
 use Rattle.image.proofs.Refusals.{sized, long, lengths, write-sizes, write-record, write-taken}
 use borrow.Author.Needs.{needs}

@@ -5,7 +5,7 @@ use native.Mathlib.Omega.{arith}
 use borrow.Author.Needs.{needs}
 use borrow.Author.Tests.{not-true, not-false}
 use lib.ListN.{length}
-use Rattle.execution.specs.State.{state}
+use Rattle.machine.specs.State.{state}
 use Rattle.interpreter.specs.Stretch.{Carried}
 use Rattle.interpreter.proofs.Issuing.{carried-start, carried-on, ends}
 use Rattle.interpreter.proofs.running.make_issues.Statement.{statement}

@@ -4,7 +4,7 @@ use mathlib.Core.Path.{_≡_, refl, sym, ap, _∙_}
 use native.Mathlib.Omega.{arith}
 use borrow.Author.Needs.{needs}
 use lib.ListN.{length}
-use Rattle.execution.specs.State.{state}
+use Rattle.machine.specs.State.{state}
 use Rattle.machine.proofs.Claims.{turned}
 use Rattle.machine.proofs.Tests.{never}
 use Rattle.interpreter.specs.Stretch.{Carried}

@@ -2,7 +2,7 @@
 use mathlib.Core.Path.{_≡_, sym, ap, _∙_}
 use mathlib.Core.Option.{none}
 use borrow.Author.Needs.{needs}
-use Rattle.execution.specs.State.{State, state}
+use Rattle.machine.specs.State.{State, state}
 use Rattle.answer.specs.Refusal.{numbered}
 use Rattle.interpreter.specs.Run.{number}
 use Rattle.interpreter.proofs.Refusals.{run-taken, taken-words, taken-room, run-refused, run-accepted}

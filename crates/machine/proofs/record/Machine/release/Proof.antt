@@ -29,7 +29,7 @@ loop-again c =
     let l = c .before .before .before .before .loop in
     let a = c .before .before .before .before .before .args in
     let s = next (a .self) (a .id) in
-    let eight : length (a .self .threads) ≡ 8 = sym (length-map (a .self .threads) _) ∙ c .before .before .before .before .before .good .0 .1 .1 .1 .1 .0 .1 .0 .1 in
+    let eight : length (a .self .threads) ≡ 8 = sym (length-map (a .self .threads) _) ∙ c .before .before .before .before .before .good .0 .1 .1 .1 .0 .1 .0 .1 in
     let e : c .before .released .result ≡ s (l .t) =
     c .before .released .ensures
     ∙ ap (released (a .id)) (c .before .before .status-at .ensures ∙ (ap (λ m. statusAt m (l .t)) (l .inv .1) ∙ status-next s (a .self) (l .t))) in
@@ -40,7 +40,7 @@ unfolding release
 returns c =
     let l = c .before .loop in
     let a = c .before .before .args in
-    let eight : length (a .self .threads) ≡ 8 = sym (length-map (a .self .threads) _) ∙ c .before .before .good .0 .1 .1 .1 .1 .0 .1 .0 .1 in
+    let eight : length (a .self .threads) ≡ 8 = sym (length-map (a .self .threads) _) ∙ c .before .before .good .0 .1 .1 .1 .0 .1 .0 .1 in
     let e : l .t ≡ length (a .self .threads) = omega arith in
     l .inv .1 ∙ ap (λ xs. record { enabled = a .self .enabled; last = a .self .last; threads = xs })
     (ap (restated (next (a .self) (a .id)) (a .self .threads)) e ∙ restated-map (released (a .id)) (a .self .threads))

@@ -11,7 +11,7 @@ use Rattle.machine.proofs.record.Machine.status_at.Tie as tie
 returns : tie.Need-returns
 returns c =
     let a = c .before .args in
-    let eight : length (a .t1 .threads) ≡ 8 = sym (length-map (a .t1 .threads) _) ∙ c .before .good .0 .1 .1 .1 .1 .0 .1 .0 .1 in
+    let eight : length (a .t1 .threads) ≡ 8 = sym (length-map (a .t1 .threads) _) ∙ c .before .good .0 .1 .1 .1 .0 .1 .0 .1 in
     sym (ap (λ e. e .status) (List·getD-eq-default (a .t1 .threads) zeroThread (omega arith)))
 
 pub status-at-spec : {M : Type 1} → statement M

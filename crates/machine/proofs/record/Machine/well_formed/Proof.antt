@@ -29,7 +29,7 @@ loop-holds : tie.Need-loop-holds Inv-loop μ-loop
 unfolding from
 loop-holds c =
     let m = c .before .before .args .self in
-    let eight : length (m .threads) ≡ 8 = sym (length-map (m .threads) _) ∙ c .before .before .good .0 .1 .1 .1 .1 .0 .1 .0 .1 in
+    let eight : length (m .threads) ≡ 8 = sym (length-map (m .threads) _) ∙ c .before .before .good .0 .1 .1 .1 .0 .1 .0 .1 in
     (omega arith, by-entries m (omega (arith, c .before .if1 .left)) (omega arith) (omega arith) eight)
 
 -- an entry is not in order

@@ -27,7 +27,7 @@ returns : tie.Need-returns Inv-loop μ-loop
 returns c =
     let l = c .before .loop in
     let a = c .before .before .args in
-    let eight : length (a .t1 .threads) ≡ 8 = sym (length-map (a .t1 .threads) _) ∙ c .before .before .good .0 .1 .1 .1 .1 .0 .1 .0 .1 in
+    let eight : length (a .t1 .threads) ≡ 8 = sym (length-map (a .t1 .threads) _) ∙ c .before .before .good .0 .1 .1 .1 .0 .1 .0 .1 in
     placed-end (a .t1) (a .thread) (a .status) (l .t) (l .self) (l .inv .1) (omega arith)
 
 pub with-status-spec : {M : Type 1} → statement M

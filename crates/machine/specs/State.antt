@@ -1,0 +1,23 @@
+-- What a machine holds: the record, the register room and data memory (document 01, "What a machine holds").
+use Prim.Native.Nat.{ℕ, _+_, _*_}
+use mathlib.Core.List.{List}
+use Rattle.machine.specs.Types.{Machine}
+
+pub record State : Type 0 where
+  pub machine : Machine
+  pub registers : List ℕ
+  pub memory : List ℕ
+
+abbrev pub state : Machine → List ℕ → List ℕ → State
+state m r d = record { machine = m; registers = r; memory = d }
+
+-- "Register room: 8,704 lent words."
+abbrev pub roomWords : ℕ
+roomWords = 8704
+
+-- "Thread t (0..7), scalar i at 64t+i; vector i, lane j at 512+1024t+16i+j."
+abbrev pub scalarPlace : ℕ → ℕ → ℕ
+scalarPlace t i = 64 * t + i
+
+abbrev pub lanePlace : ℕ → ℕ → ℕ → ℕ
+lanePlace t i j = 512 + 1024 * t + 16 * i + j
