@@ -123,37 +123,44 @@ fn issue_order(registers: &mut [u32]) {
     say(b", ");
 }
 
+fn loads(registers: &mut [u32])
+    requires { ⌜ length (now registers) ≡ 8704 ⌝ }
+{
+    say(b"memory 64, load32 at 60: ");
+    load(registers, 0x82081000, 60);
+    say(b"memory 64, load32 at 62: ");
+    load(registers, 0x82081000, 62);
+    say(b"memory 64, load32 at 64: ");
+    load(registers, 0x82081000, 64);
+    say(b"memory 64, load32 at -4: ");
+    load(registers, 0x82081FE0, 0);
+    say(b"memory 64, load32 at 0xFFFFFFFC plus 4: ");
+    load(registers, 0x82081020, 0xFFFFFFFC);
+}
+
+// "budget 7: issues 0,1,2,0,1,2,0, spent. Budget 0: spent, 0."
+fn turns(registers: &mut [u32]) {
+    say(b"0x70000000, mask 7, budget 7: issues");
+    issue_order(registers);
+    run_once(registers, &[0x70000000], 7, 7);
+    say(b"0x70000000, mask 7, budget 0: ");
+    run_once(registers, &[0x70000000], 7, 0);
+}
+
+// "0x62040004, 0x78001000, 0x7A000000: budget 100: mask 3 stops after 6; mask 1 is stuck after 2."
+fn meetings(registers: &mut [u32]) {
+    let program = [0x62040004u32, 0x78001000, 0x7A000000];
+    say(b"0x62040004 0x78001000 0x7A000000, mask 3, budget 100: ");
+    run_once(registers, &program, 3, 100);
+    say(b"0x62040004 0x78001000 0x7A000000, mask 1, budget 100: ");
+    run_once(registers, &program, 1, 100);
+}
+
 fn main() {
     let mut registers = [0u32; 8704];
     say(b"s59 = 5, v1[j] = j, s2 = 10, v3 all 7: add v3,v1,s2 gives");
     masked_add(&mut registers);
-    say(b"memory 64, load32 at 60: ");
-    load(&mut registers, 0x82081000, 60);
-    say(b"memory 64, load32 at 62: ");
-    load(&mut registers, 0x82081000, 62);
-    say(b"memory 64, load32 at 64: ");
-    load(&mut registers, 0x82081000, 64);
-    say(b"memory 64, load32 at -4: ");
-    load(&mut registers, 0x82081FE0, 0);
-    say(b"memory 64, load32 at 0xFFFFFFFC plus 4: ");
-    load(&mut registers, 0x82081020, 0xFFFFFFFC);
-    say(b"0x70000000, mask 7, budget 7: issues");
-    issue_order(&mut registers);
-    run_once(&mut registers, &[0x70000000], 7, 7);
-    say(b"0x70000000, mask 7, budget 0: ");
-    run_once(&mut registers, &[0x70000000], 7, 0);
-    say(b"0x62040004 0x78001000 0x7A000000, mask 3, budget 100: ");
-    run_once(
-        &mut registers,
-        &[0x62040004, 0x78001000, 0x7A000000],
-        3,
-        100,
-    );
-    say(b"0x62040004 0x78001000 0x7A000000, mask 1, budget 100: ");
-    run_once(
-        &mut registers,
-        &[0x62040004, 0x78001000, 0x7A000000],
-        1,
-        100,
-    );
+    loads(&mut registers);
+    turns(&mut registers);
+    meetings(&mut registers);
 }
