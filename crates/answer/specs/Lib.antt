@@ -1,3 +1,4 @@
 -- What a call gives back: what the contracts of every crate cite.
 pub mod Answer
 pub mod Refusal
+pub mod Left

@@ -6,7 +6,8 @@ use Rattle.machine.specs.State.{state}
 use Rattle.image.specs.Calls.{Reading, read}
 use Rattle.image.specs.Image.{image, machineIn}
 use Rattle.image.specs.Opening.{noBlocks, recordBytes}
-use Rattle.capi.specs.Answer.{Left, left, numberOf}
+use Rattle.answer.specs.Left.{Left, left}
+use Rattle.capi.specs.Answer.{numberOf}
 use Rattle.capi.specs.Refusal.{writeNumber}
 
 -- the buffer that the writing of an image leaves

@@ -1,6 +1,5 @@
--- The C library: what the contracts cite.
+-- The C library on a machine: what the contracts cite.
 pub mod Answer
-pub mod Words
 pub mod Refusal
 pub mod Runs
 pub mod Images

@@ -1,6 +1,6 @@
 // The saved image, with the machine record as bytes.
 ghost use mathlib.Core.Path.{_≡_};
-ghost use Rattle.capi.specs.Answer.{left};
+ghost use Rattle.answer.specs.Left.{left};
 ghost use Rattle.capi.specs.Images.{writeCall, restored, readCall};
 use crate::numbers::first_refusal;
 use crate::numbers::read_number;

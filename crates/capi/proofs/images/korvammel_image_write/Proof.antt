@@ -8,7 +8,7 @@ use Rattle.image.proofs.Refusals.{write-taken}
 use Rattle.image.specs.Calls.{write}
 use Rattle.image.specs.Image.{machineIn}
 use Rattle.image.specs.Opening.{noBlocks}
-use Rattle.capi.specs.Answer.{left}
+use Rattle.answer.specs.Left.{left}
 use Rattle.capi.specs.Images.{writeCall}
 use Rattle.capi.specs.Refusal.{writeNumber}
 use Rattle.capi.proofs.Verdicts.{in-order, lengths-none, opening-none, machine-is}

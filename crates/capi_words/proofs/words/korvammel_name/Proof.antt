@@ -1,11 +1,11 @@
 -- `korvammel_name` meets its contract: by whether the numbers have a word.
 use mathlib.Core.Path.{ap, _∙_}
 use Rattle.fields.specs.Find.{wordFor}
-use Rattle.capi.specs.Answer.{left}
-use Rattle.capi.specs.Words.{nameCall}
+use Rattle.answer.specs.Left.{left}
+use Rattle.capi_words.specs.Words.{nameCall}
 use borrow.Author.Needs.{needs}
-use Rattle.capi.proofs.words.korvammel_name.Statement.{statement}
-use Rattle.capi.proofs.words.korvammel_name.Tie as tie
+use Rattle.capi_words.proofs.words.korvammel_name.Statement.{statement}
+use Rattle.capi_words.proofs.words.korvammel_name.Tie as tie
 
 returns : tie.Need-returns
 unfolding nameCall

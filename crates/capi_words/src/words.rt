@@ -1,7 +1,7 @@
 // Words and instructions.
 ghost use mathlib.Core.Path.{_≡_};
-ghost use Rattle.capi.specs.Answer.{left};
-ghost use Rattle.capi.specs.Words.{listOf, numbersIn, readWord, writeWord, nameCall};
+ghost use Rattle.answer.specs.Left.{left};
+ghost use Rattle.capi_words.specs.Words.{listOf, numbersIn, readWord, writeWord, nameCall};
 use fields::Found;
 use fields::Numbers;
 use isa::Reading;

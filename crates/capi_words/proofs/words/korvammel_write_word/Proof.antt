@@ -1,10 +1,10 @@
 -- `korvammel_write_word` meets its contract: by whether there is a word.
 use mathlib.Core.Path.{ap, _∙_}
 use Rattle.fields.specs.Find.{wordFor}
-use Rattle.capi.specs.Words.{writeWord}
+use Rattle.capi_words.specs.Words.{writeWord}
 use borrow.Author.Needs.{needs}
-use Rattle.capi.proofs.words.korvammel_write_word.Statement.{statement}
-use Rattle.capi.proofs.words.korvammel_write_word.Tie as tie
+use Rattle.capi_words.proofs.words.korvammel_write_word.Statement.{statement}
+use Rattle.capi_words.proofs.words.korvammel_write_word.Tie as tie
 
 returns : tie.Need-returns
 unfolding writeWord

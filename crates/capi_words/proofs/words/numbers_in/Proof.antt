@@ -1,7 +1,7 @@
 -- `numbers_in` meets its contract: number by number.
 use borrow.Author.Needs.{needs}
-use Rattle.capi.proofs.words.numbers_in.Statement.{statement}
-use Rattle.capi.proofs.words.numbers_in.Tie as tie
+use Rattle.capi_words.proofs.words.numbers_in.Statement.{statement}
+use Rattle.capi_words.proofs.words.numbers_in.Tie as tie
 
 pub numbers-in-spec : {M : Type 1} → statement M
 numbers-in-spec =

@@ -1,10 +1,10 @@
 -- `korvammel_read_word` meets its contract: by what the word is read as.
 use mathlib.Core.Path.{ap, _∙_}
-use Rattle.capi.specs.Answer.{left}
-use Rattle.capi.specs.Words.{listOf, readWord}
+use Rattle.answer.specs.Left.{left}
+use Rattle.capi_words.specs.Words.{listOf, readWord}
 use borrow.Author.Needs.{needs}
-use Rattle.capi.proofs.words.korvammel_read_word.Statement.{statement}
-use Rattle.capi.proofs.words.korvammel_read_word.Tie as tie
+use Rattle.capi_words.proofs.words.korvammel_read_word.Statement.{statement}
+use Rattle.capi_words.proofs.words.korvammel_read_word.Tie as tie
 
 pub korvammel-read-word-spec : {M : Type 1} → statement M
 unfolding readWord

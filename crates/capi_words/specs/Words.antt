@@ -8,7 +8,7 @@ use Rattle.fields.specs.Numbers.{numbers, numbersOf}
 use Rattle.fields.specs.declared.numbers.Numbers.{Numbers}
 use Rattle.isa.specs.Read.{read}
 use Rattle.names.specs.Name.{nameOf, padded}
-use Rattle.capi.specs.Answer.{Left, left, leaves}
+use Rattle.answer.specs.Left.{Left, left, leaves}
 
 -- six numbers in the order of a list, both ways
 abbrev pub listOf : Numbers → List ℕ

@@ -1,0 +1,2 @@
+-- The C library on words: what the contracts cite.
+pub mod Words
