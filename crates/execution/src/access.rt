@@ -19,8 +19,8 @@ fn load(
     t: usize,
     pc: u32,
     op: LoadOp,
-    register: u8,
-    base: u8,
+    register: u32,
+    base: u32,
     offset: u32,
 ) -> Effect
     requires { ⌜ InRoom (now room) t × (pc < 65536) × (register < 64) × (base < 64) ⌝ }
@@ -59,8 +59,8 @@ fn store(
     t: usize,
     pc: u32,
     op: StoreOp,
-    register: u8,
-    base: u8,
+    register: u32,
+    base: u32,
     offset: u32,
 ) -> Effect
     requires { ⌜ InRoom (now room) t × (pc < 65536) × (register < 64) × (base < 64) ⌝ }
@@ -77,8 +77,8 @@ fn load_lanes(
     memory: &[u8],
     t: usize,
     pc: u32,
-    register: u8,
-    base: u8,
+    register: u32,
+    base: u32,
     offset: u32,
 ) -> Effect
     requires { ⌜ InRoom (now room) t × (pc < 65536) × (register < 64) × (base < 64) ⌝ }
@@ -104,8 +104,8 @@ fn store_lanes(
     memory: &mut [u8],
     t: usize,
     pc: u32,
-    register: u8,
-    base: u8,
+    register: u32,
+    base: u32,
     offset: u32,
 ) -> Effect
     requires { ⌜ InRoom (now room) t × (pc < 65536) × (register < 64) × (base < 64) ⌝ }
@@ -124,8 +124,8 @@ pub fn access(
     t: usize,
     pc: u32,
     op: MemoryOp,
-    register: u8,
-    base: u8,
+    register: u32,
+    base: u32,
     offset: u32,
 ) -> Effect
     requires { ⌜ InRoom (now room) t × (pc < 65536) × (register < 64) × (base < 64) ⌝ }

@@ -30,7 +30,7 @@ fn control_register(enabled: u8, t: usize, pc: u32, number: u32) -> ControlValue
     }
 }
 
-fn read_control(enabled: u8, room: &mut [u32], t: usize, pc: u32, first: u8, second: u8) -> Effect
+fn read_control(enabled: u8, room: &mut [u32], t: usize, pc: u32, first: u32, second: u32) -> Effect
     requires { ⌜ InRoom (now room) t × (pc < 65536) × (first < 64) × (second < 64) ⌝ }
     ensures { λ r. ⌜ step r (now (room .exit)) ≡ readControl enabled t (now (room .entry)) pc first second ⌝ }
 {
@@ -51,8 +51,8 @@ pub fn control(
     t: usize,
     pc: u32,
     op: ControlOp,
-    first: u8,
-    second: u8,
+    first: u32,
+    second: u32,
 ) -> Effect
     requires { ⌜ InRoom (now room) t × (pc < 65536) × (first < 64) × (second < 64) ⌝ }
     ensures { λ r. ⌜ step r (now (room .exit)) ≡ control enabled t (now (room .entry)) pc op first second ⌝ }

@@ -28,7 +28,7 @@ fn replace_lanes(op: MoveiOp, old: [u32; 16], n: u32) -> [u32; 16]
     v
 }
 
-pub fn move_immediate(room: &mut [u32], t: usize, op: MoveiOp, flag: bool, d: u8, n: u32)
+pub fn move_immediate(room: &mut [u32], t: usize, op: MoveiOp, flag: bool, d: u32, n: u32)
     requires { ⌜ InRoom (now room) t × (d < 64) × (n < 2 ^ 16) ⌝ }
     ensures { λ _. ⌜ now (room .exit) ≡ moveImmediate (now (room .entry)) t op flag d n ⌝ }
 {

@@ -67,7 +67,7 @@ pub fn jump(
     t: usize,
     pc: u32,
     op: JumpOp,
-    register: u8,
+    register: u32,
     offset: u32,
 ) -> Effect
     requires { ⌜ InRoom (now room) t × (words ≤ 16384) × (pc < 65536) × (register < 64) ⌝ }

@@ -9,10 +9,10 @@ use crate::registers;
 // A scalar's word, or the number of a vector register: its lanes are read where they are used.
 pub enum Source {
     Scalar(u32),
-    Vector(u8),
+    Vector(u32),
 }
 
-pub fn select(room: &[u32], t: usize, flag: bool, i: u8) -> Source
+pub fn select(room: &[u32], t: usize, flag: bool, i: u32) -> Source
     requires { ⌜ InRoom (now room) t × (i < 64) ⌝ }
     ensures { λ r. ⌜ (r ≡ source (now (room .entry)) t flag i) × Named r ⌝ }
 {

@@ -14,7 +14,7 @@ use isa::CompareOp;
 use isa::Operation;
 use isa::UnaryOp;
 
-fn binary(room: &mut [u32], t: usize, op: BinaryOp, flag: bool, d: u8, a: Source, b: Source)
+fn binary(room: &mut [u32], t: usize, op: BinaryOp, flag: bool, d: u32, a: Source, b: Source)
     requires { ⌜ InRoom (now room) t × (d < 64) × Named a × Named b ⌝ }
     ensures { λ _. ⌜ now (room .exit) ≡ binaryInto (now (room .entry)) t op flag d a b ⌝ }
 {
@@ -31,7 +31,7 @@ fn binary(room: &mut [u32], t: usize, op: BinaryOp, flag: bool, d: u8, a: Source
     }
 }
 
-fn unary(room: &mut [u32], t: usize, op: UnaryOp, flag: bool, d: u8, a: Source)
+fn unary(room: &mut [u32], t: usize, op: UnaryOp, flag: bool, d: u32, a: Source)
     requires { ⌜ InRoom (now room) t × (d < 64) × Named a ⌝ }
     ensures { λ _. ⌜ now (room .exit) ≡ unaryInto (now (room .entry)) t op flag d a ⌝ }
 {
@@ -52,7 +52,7 @@ fn number(holds: bool) -> u32
     if holds { 1 } else { 0 }
 }
 
-fn compare(room: &mut [u32], t: usize, op: CompareOp, d: u8, a: Source, b: Source)
+fn compare(room: &mut [u32], t: usize, op: CompareOp, d: u32, a: Source, b: Source)
     requires { ⌜ InRoom (now room) t × (d < 64) × Named a × Named b ⌝ }
     ensures { λ _. ⌜ now (room .exit) ≡ compareInto (now (room .entry)) t op d a b ⌝ }
 {
@@ -68,7 +68,7 @@ fn compare(room: &mut [u32], t: usize, op: CompareOp, d: u8, a: Source, b: Sourc
     }
 }
 
-fn shuffle(room: &mut [u32], t: usize, d: u8, a: Source, b: Source)
+fn shuffle(room: &mut [u32], t: usize, d: u32, a: Source, b: Source)
     requires { ⌜ InRoom (now room) t × (d < 64) × Named a × Named b ⌝ }
     ensures { λ _. ⌜ now (room .exit) ≡ shuffleInto (now (room .entry)) t d a b ⌝ }
 {
@@ -77,7 +77,7 @@ fn shuffle(room: &mut [u32], t: usize, d: u8, a: Source, b: Source)
     registers::set_lanes_on(room, t, d, vector::shuffle(x, y));
 }
 
-fn get_lane(room: &mut [u32], t: usize, d: u8, a: Source, b: Source)
+fn get_lane(room: &mut [u32], t: usize, d: u32, a: Source, b: Source)
     requires { ⌜ InRoom (now room) t × (d < 64) × Named a ⌝ }
     ensures { λ _. ⌜ now (room .exit) ≡ getLaneInto (now (room .entry)) t d a b ⌝ }
 {
@@ -86,7 +86,7 @@ fn get_lane(room: &mut [u32], t: usize, d: u8, a: Source, b: Source)
     registers::set_scalar(room, t, d, x[j as usize]);
 }
 
-fn operate(room: &mut [u32], t: usize, op: Operation, flag: bool, d: u8, a: Source, b: Source)
+fn operate(room: &mut [u32], t: usize, op: Operation, flag: bool, d: u32, a: Source, b: Source)
     requires { ⌜ InRoom (now room) t × (d < 64) × Named a × Named b ⌝ }
     ensures { λ _. ⌜ now (room .exit) ≡ operate (now (room .entry)) t op flag d a b ⌝ }
 {
@@ -100,7 +100,7 @@ fn operate(room: &mut [u32], t: usize, op: Operation, flag: bool, d: u8, a: Sour
 }
 
 // The same for scalars alone, which most instructions are on: it is small enough to stand where it is called.
-fn operate_scalars(room: &mut [u32], t: usize, op: Operation, d: u8, x: u32, y: u32)
+fn operate_scalars(room: &mut [u32], t: usize, op: Operation, d: u32, x: u32, y: u32)
     requires { ⌜ InRoom (now room) t × (d < 64) ⌝ }
     ensures { λ _. ⌜ now (room .exit) ≡ operate (now (room .entry)) t op false d (Scalar x) (Scalar y) ⌝ }
 {
@@ -113,7 +113,7 @@ fn operate_scalars(room: &mut [u32], t: usize, op: Operation, d: u8, x: u32, y: 
     }
 }
 
-pub fn operate_r(room: &mut [u32], t: usize, op: Operation, flags: u8, d: u8, a: u8, b: u8)
+pub fn operate_r(room: &mut [u32], t: usize, op: Operation, flags: u32, d: u32, a: u32, b: u32)
     requires { ⌜ InRoom (now room) t × (d < 64) × (a < 64) × (b < 64) ⌝ }
     ensures { λ _. ⌜ now (room .exit) ≡ operateR (now (room .entry)) t op flags d a b ⌝ }
 {
@@ -122,13 +122,13 @@ pub fn operate_r(room: &mut [u32], t: usize, op: Operation, flags: u8, d: u8, a:
         let y = registers::scalar(room, t, b);
         operate_scalars(room, t, op, d, x, y);
     } else {
-        let x = operand::select(room, t, vector::is_on(flags as u32, 1), a);
-        let y = operand::select(room, t, vector::is_on(flags as u32, 0), b);
-        operate(room, t, op, vector::is_on(flags as u32, 2), d, x, y);
+        let x = operand::select(room, t, vector::is_on(flags, 1), a);
+        let y = operand::select(room, t, vector::is_on(flags, 0), b);
+        operate(room, t, op, vector::is_on(flags, 2), d, x, y);
     }
 }
 
-pub fn operate_i(room: &mut [u32], t: usize, op: Operation, flags: u8, d: u8, a: u8, immediate: u32)
+pub fn operate_i(room: &mut [u32], t: usize, op: Operation, flags: u32, d: u32, a: u32, immediate: u32)
     requires { ⌜ InRoom (now room) t × (d < 64) × (a < 64) ⌝ }
     ensures { λ _. ⌜ now (room .exit) ≡ operateI (now (room .entry)) t op flags d a immediate ⌝ }
 {
@@ -136,12 +136,12 @@ pub fn operate_i(room: &mut [u32], t: usize, op: Operation, flags: u8, d: u8, a:
         let x = registers::scalar(room, t, a);
         operate_scalars(room, t, op, d, x, immediate);
     } else {
-        let x = operand::select(room, t, vector::is_on(flags as u32, 0), a);
+        let x = operand::select(room, t, vector::is_on(flags, 0), a);
         operate(
             room,
             t,
             op,
-            vector::is_on(flags as u32, 1),
+            vector::is_on(flags, 1),
             d,
             x,
             Source::Scalar(immediate),

@@ -5,27 +5,27 @@ ghost use Rattle.execution.specs.Effect.{advanced};
 ghost use Rattle.execution.specs.Registers.{scalar, vector, withScalar, withVector, withLanesOn, InRoom};
 
 // s59, s62 and s63.
-pub const LANE_MASK: u8 = 59;
+pub const LANE_MASK: u32 = 59;
 
-pub const LINK: u8 = 62;
+pub const LINK: u32 = 62;
 
-pub const PROGRAM_COUNTER: u8 = 63;
+pub const PROGRAM_COUNTER: u32 = 63;
 
-pub fn scalar(room: &[u32], t: usize, i: u8) -> u32
+pub fn scalar(room: &[u32], t: usize, i: u32) -> u32
     requires { ⌜ InRoom (now room) t × (i < 64) ⌝ }
     ensures { λ r. ⌜ r ≡ scalar (now (room .entry)) t i ⌝ }
 {
     room[64 * t + i as usize]
 }
 
-pub fn set_scalar(room: &mut [u32], t: usize, i: u8, x: u32)
+pub fn set_scalar(room: &mut [u32], t: usize, i: u32, x: u32)
     requires { ⌜ InRoom (now room) t × (i < 64) ⌝ }
     ensures { λ _. ⌜ now (room .exit) ≡ withScalar (now (room .entry)) t i x ⌝ }
 {
     room[64 * t + i as usize] = x;
 }
 
-pub fn vector(room: &[u32], t: usize, i: u8) -> [u32; 16]
+pub fn vector(room: &[u32], t: usize, i: u32) -> [u32; 16]
     requires { ⌜ InRoom (now room) t × (i < 64) ⌝ }
     ensures { λ r. ⌜ r ≡ vector (now (room .entry)) t i ⌝ }
 {
@@ -37,7 +37,7 @@ pub fn vector(room: &[u32], t: usize, i: u8) -> [u32; 16]
     v
 }
 
-pub fn set_vector(room: &mut [u32], t: usize, i: u8, v: [u32; 16])
+pub fn set_vector(room: &mut [u32], t: usize, i: u32, v: [u32; 16])
     requires { ⌜ InRoom (now room) t × (i < 64) ⌝ }
     ensures { λ _. ⌜ now (room .exit) ≡ withVector (now (room .entry)) t i v ⌝ }
 {
@@ -48,7 +48,7 @@ pub fn set_vector(room: &mut [u32], t: usize, i: u8, v: [u32; 16])
 }
 
 // The lanes that are on.
-pub fn set_lanes_on(room: &mut [u32], t: usize, i: u8, v: [u32; 16])
+pub fn set_lanes_on(room: &mut [u32], t: usize, i: u32, v: [u32; 16])
     requires { ⌜ InRoom (now room) t × (i < 64) ⌝ }
     ensures { λ _. ⌜ now (room .exit) ≡ withLanesOn (now (room .entry)) t i v ⌝ }
 {

@@ -21,14 +21,15 @@ ghost use Rattle.isa.specs.Read.{asR, asI, asMovei, asJ, asC, asM, readR
 fn as_r(w: u32, op: Operation) -> Reading
     ensures { λ r. ⌜ reading r ≡ asR w op ⌝ }
 {
-    let flags = (w / 2 % 8) as u8;
-    let d = (w / 0x40000 % 64) as u8;
-    let a = (w / 0x1000 % 64) as u8;
-    let b = (w / 0x40 % 64) as u8;
+    let flags = w / 2 % 8;
+    let d = w / 0x40000 % 64;
+    let a = w / 0x1000 % 64;
+    let b = w / 0x40 % 64;
+    let allowed = rule::r_allows(op, flags, d, b);
     if w / 0x10 % 2 == 1 {
         return Reading::NotFitted;
     }
-    if (w / 0x20 % 2 == 0) & (w % 2 == 0) & rule::r_allows(op, flags, d, b) {
+    if (w / 0x20 % 2 == 0) & (w % 2 == 0) & allowed {
         Reading::Defined(Instruction::R { op, flags, d, a, b })
     } else {
         Reading::Undefined
@@ -38,9 +39,9 @@ fn as_r(w: u32, op: Operation) -> Reading
 fn as_i(w: u32, op: Operation) -> Reading
     ensures { λ r. ⌜ reading r ≡ asI w op ⌝ }
 {
-    let flags = (w / 2 % 4) as u8;
-    let d = (w / 0x40000 % 64) as u8;
-    let a = (w / 0x1000 % 64) as u8;
+    let flags = w / 2 % 4;
+    let d = w / 0x40000 % 64;
+    let a = w / 0x1000 % 64;
     let immediate = field::sign_extend(0x100, w / 8 % 512);
     if (w % 2 == 0) & rule::i_allows(op, flags, d) {
         Reading::Defined(Instruction::I {
@@ -58,8 +59,8 @@ fn as_i(w: u32, op: Operation) -> Reading
 fn as_movei(w: u32, op: MoveiOp) -> Reading
     ensures { λ r. ⌜ reading r ≡ asMovei w op ⌝ }
 {
-    let flag = (w / 2 % 2) as u8;
-    let d = (w / 0x40000 % 64) as u8;
+    let flag = w / 2 % 2;
+    let d = w / 0x40000 % 64;
     let immediate = w / 4 % 65536;
     if (w % 2 == 0) & rule::movei_allows(flag, d) {
         Reading::Defined(Instruction::Movei {
@@ -76,7 +77,7 @@ fn as_movei(w: u32, op: MoveiOp) -> Reading
 fn as_j(w: u32, op: JumpOp) -> Reading
     ensures { λ r. ⌜ reading r ≡ asJ w op ⌝ }
 {
-    let register = (w / 0x40000 % 64) as u8;
+    let register = w / 0x40000 % 64;
     let offset = field::sign_extend(0x20000, w % 0x40000);
     if rule::j_allows(op, register, offset) {
         Reading::Defined(Instruction::J {
@@ -92,8 +93,8 @@ fn as_j(w: u32, op: JumpOp) -> Reading
 fn as_c(w: u32, op: ControlOp) -> Reading
     ensures { λ r. ⌜ reading r ≡ asC w op ⌝ }
 {
-    let first = (w / 0x40000 % 64) as u8;
-    let second = (w / 0x1000 % 64) as u8;
+    let first = w / 0x40000 % 64;
+    let second = w / 0x1000 % 64;
     if (w % 0x1000 == 0) & rule::c_allows(op, first, second) {
         Reading::Defined(Instruction::C { op, first, second })
     } else {
@@ -104,8 +105,8 @@ fn as_c(w: u32, op: ControlOp) -> Reading
 fn as_m(w: u32, op: MemoryOp) -> Reading
     ensures { λ r. ⌜ reading r ≡ asM w op ⌝ }
 {
-    let register = (w / 0x40000 % 64) as u8;
-    let base = (w / 0x1000 % 64) as u8;
+    let register = w / 0x40000 % 64;
+    let base = w / 0x1000 % 64;
     let offset = field::sign_extend(0x100, w / 8 % 512);
     if w / 2 % 4 != 0 {
         return Reading::NotFitted;

@@ -45,19 +45,19 @@ fn i_set(op: Operation) -> u32
     }
 }
 
-fn is_in(set: u32, flags: u8) -> bool
+fn is_in(set: u32, flags: u32) -> bool
     ensures { λ r. ⌜ r ≡ inSet set flags ⌝ }
 {
     (flags < 8) & ((set >> (flags % 8)) % 2 == 1)
 }
 
-fn is_destination(vector: bool, d: u8) -> bool
+fn is_destination(vector: bool, d: u32) -> bool
     ensures { λ r. ⌜ r ≡ destination vector d ⌝ }
 {
     vector | (d != 63)
 }
 
-fn operand_b(op: Operation, b: u8) -> bool
+fn operand_b(op: Operation, b: u32) -> bool
     ensures { λ r. ⌜ r ≡ operandB op b ⌝ }
 {
     match op {
@@ -69,25 +69,25 @@ fn operand_b(op: Operation, b: u8) -> bool
     }
 }
 
-pub fn r_allows(op: Operation, flags: u8, d: u8, b: u8) -> bool
+pub fn r_allows(op: Operation, flags: u32, d: u32, b: u32) -> bool
     ensures { λ r. ⌜ r ≡ allowsR op flags d b ⌝ }
 {
     is_in(r_set(op), flags) & is_destination(0b100 <= flags, d) & operand_b(op, b)
 }
 
-pub fn i_allows(op: Operation, flags: u8, d: u8) -> bool
+pub fn i_allows(op: Operation, flags: u32, d: u32) -> bool
     ensures { λ r. ⌜ r ≡ allowsI op flags d ⌝ }
 {
     is_in(i_set(op), flags) & is_destination(0b10 <= flags, d)
 }
 
-pub fn movei_allows(flag: u8, d: u8) -> bool
+pub fn movei_allows(flag: u32, d: u32) -> bool
     ensures { λ r. ⌜ r ≡ allowsMovei flag d ⌝ }
 {
     is_destination(flag == 1, d)
 }
 
-pub fn j_allows(op: JumpOp, register: u8, offset: u32) -> bool
+pub fn j_allows(op: JumpOp, register: u32, offset: u32) -> bool
     ensures { λ r. ⌜ r ≡ allowsJ op register offset ⌝ }
 {
     match op {
@@ -99,7 +99,7 @@ pub fn j_allows(op: JumpOp, register: u8, offset: u32) -> bool
     }
 }
 
-pub fn c_allows(op: ControlOp, first: u8, second: u8) -> bool
+pub fn c_allows(op: ControlOp, first: u32, second: u32) -> bool
     ensures { λ r. ⌜ r ≡ allowsC op first second ⌝ }
 {
     match op {
@@ -109,7 +109,7 @@ pub fn c_allows(op: ControlOp, first: u8, second: u8) -> bool
     }
 }
 
-pub fn m_allows(op: MemoryOp, register: u8) -> bool
+pub fn m_allows(op: MemoryOp, register: u32) -> bool
     ensures { λ r. ⌜ r ≡ allowsM op register ⌝ }
 {
     match op {

@@ -15,7 +15,7 @@ ghost use Rattle.isa.specs.Answer.{writing};
 ghost use Rattle.isa.specs.Types.{R, I, Movei, J, C, M};
 ghost use Rattle.isa.specs.Write.{write};
 
-fn write_r(op: Operation, flags: u8, d: u8, a: u8, b: u8) -> Writing
+fn write_r(op: Operation, flags: u32, d: u32, a: u32, b: u32) -> Writing
     ensures { λ r. ⌜ writing r ≡ write (R op flags d a b) ⌝ }
 {
     let opcode = opcode::r_opcode(op);
@@ -32,7 +32,7 @@ fn write_r(op: Operation, flags: u8, d: u8, a: u8, b: u8) -> Writing
     }
 }
 
-fn write_i(op: Operation, flags: u8, d: u8, a: u8, immediate: u32) -> Writing
+fn write_i(op: Operation, flags: u32, d: u32, a: u32, immediate: u32) -> Writing
     ensures { λ r. ⌜ writing r ≡ write (I op flags d a immediate) ⌝ }
 {
     let opcode = opcode::r_opcode(op);
@@ -49,7 +49,7 @@ fn write_i(op: Operation, flags: u8, d: u8, a: u8, immediate: u32) -> Writing
     }
 }
 
-fn write_movei(op: MoveiOp, flag: u8, d: u8, immediate: u32) -> Writing
+fn write_movei(op: MoveiOp, flag: u32, d: u32, immediate: u32) -> Writing
     ensures { λ r. ⌜ writing r ≡ write (Movei op flag d immediate) ⌝ }
 {
     let opcode = opcode::movei_opcode(op);
@@ -60,7 +60,7 @@ fn write_movei(op: MoveiOp, flag: u8, d: u8, immediate: u32) -> Writing
     }
 }
 
-fn write_j(op: JumpOp, register: u8, offset: u32) -> Writing
+fn write_j(op: JumpOp, register: u32, offset: u32) -> Writing
     ensures { λ r. ⌜ writing r ≡ write (J op register offset) ⌝ }
 {
     let opcode = opcode::j_opcode(op);
@@ -75,7 +75,7 @@ fn write_j(op: JumpOp, register: u8, offset: u32) -> Writing
     }
 }
 
-fn write_c(op: ControlOp, first: u8, second: u8) -> Writing
+fn write_c(op: ControlOp, first: u32, second: u32) -> Writing
     ensures { λ r. ⌜ writing r ≡ write (C op first second) ⌝ }
 {
     let opcode = opcode::c_opcode(op);
@@ -86,7 +86,7 @@ fn write_c(op: ControlOp, first: u8, second: u8) -> Writing
     }
 }
 
-fn write_m(op: MemoryOp, register: u8, base: u8, offset: u32) -> Writing
+fn write_m(op: MemoryOp, register: u32, base: u32, offset: u32) -> Writing
     ensures { λ r. ⌜ writing r ≡ write (M op register base offset) ⌝ }
 {
     let opcode = opcode::m_opcode(op);

@@ -11,8 +11,6 @@ unfolding asC accepted all
 as-c-spec =
     tie.close
     (tie.spec
-    (λ c. search needs)
-    (λ c. search needs)
     (λ c κs. search needs)
     (λ c. rw (div-one, ← c .before .c-allows .ensures, c .if1 .taken))
     (λ c. rw (div-one, ← c .before .c-allows .ensures, c .if1 .left)))

@@ -11,9 +11,6 @@ unfolding asI accepted all
 as-i-spec =
     tie.close
     (tie.spec
-    (λ c. search needs)
-    (λ c. search needs)
-    (λ c. search needs)
     (λ c κs. search needs)
     (λ c κs. search needs)
     (λ c. rw (div-one, ← c .before .before .sign-extend .ensures, ← c .before .i-allows .ensures, c .if1 .taken))

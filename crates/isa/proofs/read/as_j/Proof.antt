@@ -10,7 +10,6 @@ unfolding asJ accepted
 as-j-spec =
     tie.close
     (tie.spec
-    (λ c. search needs)
     (λ c κs. search needs)
     (λ c κs. search needs)
     (λ c. rw (div-one, ← c .before .before .sign-extend .ensures, ← c .before .j-allows .ensures, c .if1 .taken))

@@ -12,11 +12,7 @@ unfolding asR accepted all
 as-r-spec =
     tie.close
     (tie.spec
-    (λ c. search needs)
-    (λ c. search needs)
-    (λ c. search needs)
-    (λ c. search needs)
-    (λ c. rw (eq-eqb _ 1 (c .if1 .taken)))
     (λ c κs. search needs)
-    (λ c. rw (ne-eqb _ 1 (c .before .before .if1 .left), div-one, ← c .before .r-allows .ensures, c .if2 .taken))
-    (λ c. rw (ne-eqb _ 1 (c .before .before .if1 .left), div-one, ← c .before .r-allows .ensures, c .if2 .left)))
+    (λ c. rw (eq-eqb _ 1 (c .if1 .taken)))
+    (λ c. rw (ne-eqb _ 1 (c .before .if1 .left), div-one, ← c .before .before .r-allows .ensures, c .if2 .taken))
+    (λ c. rw (ne-eqb _ 1 (c .before .if1 .left), div-one, ← c .before .before .r-allows .ensures, c .if2 .left)))
