@@ -8,13 +8,20 @@ use Rattle.answer.specs.Answer.{bad-registers, bad-memory, bad-length}
 use Rattle.answer.specs.declared.refusal.Verdict.{Verdict}
 use Rattle.answer.specs.declared.refusal.Verdict.the-variants.{Accepted, Refused}
 
+-- "Program: 1 to 16,384 words", "Register room: 8,704 lent words."
+abbrev pub programWords : ℕ
+programWords = 16384
+
+abbrev pub roomWords : ℕ
+roomWords = 8704
+
 -- "program has 0 or more than 16,384 words"
 abbrev pub badProgram : ℕ → Bool
-badProgram words = eqb words 0 || ltb 16384 words
+badProgram words = eqb words 0 || ltb programWords words
 
 -- "register room is not 8,704 words"
 abbrev pub badRegisters : ℕ → Bool
-badRegisters words = not (eqb words 8704)
+badRegisters words = not (eqb words roomWords)
 
 -- "memory length is not allowed": "a multiple of 64, from 64 to 65,536"
 abbrev pub badMemory : ℕ → Bool

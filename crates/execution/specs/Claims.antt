@@ -3,6 +3,7 @@ use Prim.Native.Nat.{ℕ, _≤_, _<_}
 use mathlib.Core.Path.{_≡_}
 use mathlib.Core.List.{List}
 use lib.ListN.{length}
+use Rattle.answer.specs.Refusal.{programWords, roomWords}
 use Rattle.machine.specs.Claims.{Sound}
 use Rattle.machine.specs.State.{State}
 use Rattle.execution.specs.Issue.{perform, issue}
@@ -18,4 +19,4 @@ pub record Lengths : Type 0 where
 
 -- the total form is the rules' own in a room of the right size, for one of the eight threads
 abbrev pub Issues : Type 0
-Issues = (p : List ℕ) (s : State) (t : ℕ) → length p ≤ 16384 → length (s .registers) ≡ 8704 → t < 8 → issue p s t ≡ perform p s t
+Issues = (p : List ℕ) (s : State) (t : ℕ) → length p ≤ programWords → length (s .registers) ≡ roomWords → t < 8 → issue p s t ≡ perform p s t

@@ -15,7 +15,7 @@ use Rattle.execution.specs.Immediate.{moveImmediate}
 use Rattle.execution.specs.Jump.{inProgram, jump}
 use Rattle.execution.specs.Operation.{operateR, operateI}
 use Rattle.execution.specs.Registers.{programCounter}
-use Rattle.machine.specs.State.{roomWords}
+use Rattle.answer.specs.Refusal.{programWords, roomWords}
 use Rattle.machine.specs.State.{State, state}
 use Rattle.execution.specs.Types.{Instruction, R, I, Movei, J, C, M, Effect, Stays, Traps, Ends, Meets, Machine, Meeting}
 
@@ -67,7 +67,7 @@ perform p s t = performAt p s t (programCounter (s .registers) t)
 
 -- whether the lengths and the thread are such as a run that is not refused comes to
 abbrev pub fits : ℕ → ℕ → ℕ → Bool
-fits words room t = leb words 16384 && eqb room roomWords && ltb t 8
+fits words room t = leb words programWords && eqb room roomWords && ltb t 8
 
 -- the same for any lengths and any thread number: elsewhere nothing changes
 unfoldable pub issue : List ℕ → State → ℕ → State

@@ -3,7 +3,8 @@ use Prim.Native.Nat.{ℕ, _+_, _*_, _<_}
 use mathlib.Core.List.{List}
 use mathlib.Core.Path.{_≡_}
 use lib.ListN.{length, getD, set}
-use Rattle.machine.specs.State.{roomWords, scalarPlace, lanePlace}
+use Rattle.answer.specs.Refusal.{roomWords}
+use Rattle.machine.specs.State.{scalarPlace, lanePlace}
 use Rattle.vector.specs.Lanes.{tab, lane, blended}
 use Rattle.memory.specs.Operation.{each}
 

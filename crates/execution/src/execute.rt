@@ -1,6 +1,7 @@
 // One instruction of a thread.
 ghost use mathlib.Core.Path.{_≡_};
 ghost use Prim.Native.Nat.{_≤_, _<_};
+ghost use Rattle.answer.specs.Refusal.{programWords};
 ghost use Rattle.isa.specs.Claims.{Ranged};
 ghost use Rattle.execution.specs.Effect.{executed};
 ghost use Rattle.execution.specs.Issue.{execute, executeWord};
@@ -25,7 +26,7 @@ fn instruction(
     pc: u32,
     i: Instruction,
 ) -> Effect
-    requires { ⌜ InRoom (now room) t × (words ≤ 16384) × (pc < 65536) × Ranged i ⌝ }
+    requires { ⌜ InRoom (now room) t × (words ≤ programWords) × (pc < 65536) × Ranged i ⌝ }
     ensures { λ r. ⌜ executed r (now (room .exit)) (now (memory .exit)) ≡ execute words enabled t (now (room .entry)) (now (memory .entry)) pc i ⌝ }
 {
     match i {
@@ -88,7 +89,7 @@ pub fn word(
     pc: u32,
     w: u32,
 ) -> Effect
-    requires { ⌜ InRoom (now room) t × (words ≤ 16384) × (pc < 65536) ⌝ }
+    requires { ⌜ InRoom (now room) t × (words ≤ programWords) × (pc < 65536) ⌝ }
     ensures { λ r. ⌜ executed r (now (room .exit)) (now (memory .exit)) ≡ executeWord words enabled t (now (room .entry)) (now (memory .entry)) pc w ⌝ }
 {
     match isa::read_word(w) {

@@ -3,6 +3,7 @@ ghost use mathlib.Core.Bool.{false};
 ghost use mathlib.Core.Path.{_≡_};
 ghost use Prim.Native.Nat.{_≤_, _<_};
 ghost use lib.ListN.{length};
+ghost use Rattle.answer.specs.Refusal.{programWords};
 ghost use Rattle.machine.specs.Barrier.{meet};
 ghost use Rattle.execution.specs.Issue.{afterMeeting, fits, perform, issue};
 ghost use Rattle.execution.specs.Registers.{InRoom};
@@ -48,7 +49,7 @@ fn perform(
     machine: Machine,
     t: usize,
 ) -> Issued
-    requires { ⌜ InRoom (now registers) t × (length (now program) ≤ 16384) ⌝ }
+    requires { ⌜ InRoom (now registers) t × (length (now program) ≤ programWords) ⌝ }
     ensures { λ r. ⌜ (state (r .machine) (now (registers .exit)) (now (memory .exit)) ≡ perform (now (program .entry)) (state machine (now (registers .entry)) (now (memory .entry))) t) × (r .changed ≡ false → r .machine ≡ machine) ⌝ }
 {
     let words = program.len();

@@ -2,6 +2,7 @@
 ghost use mathlib.Core.Path.{_≡_};
 ghost use mathlib.Core.Bool.{cond};
 ghost use Prim.Native.Nat.{_≤_, _<_};
+ghost use Rattle.answer.specs.Refusal.{programWords};
 ghost use Rattle.execution.specs.Effect.{step, next};
 ghost use Rattle.execution.specs.Jump.{inProgram, jumpTo, jumpBy, linked, jump};
 ghost use Rattle.execution.specs.Registers.{InRoom};
@@ -11,14 +12,14 @@ use isa::JumpOp;
 
 // Whether a word of the program stands at an address.
 pub fn in_program(words: usize, address: u32) -> bool
-    requires { ⌜ words ≤ 16384 ⌝ }
+    requires { ⌜ words ≤ programWords ⌝ }
     ensures { λ r. ⌜ r ≡ inProgram words address ⌝ }
 {
     (address % 4 == 0) & ((address as usize) < 4 * words)
 }
 
 fn jump_to(words: usize, room: &mut [u32], t: usize, address: u32) -> Effect
-    requires { ⌜ InRoom (now room) t × (words ≤ 16384) ⌝ }
+    requires { ⌜ InRoom (now room) t × (words ≤ programWords) ⌝ }
     ensures { λ r. ⌜ step r (now (room .exit)) ≡ jumpTo words t (now (room .entry)) (now (room .entry)) address ⌝ }
 {
     if in_program(words, address) {
@@ -30,14 +31,14 @@ fn jump_to(words: usize, room: &mut [u32], t: usize, address: u32) -> Effect
 
 // The sum wraps: a negative target comes out past the end of every program.
 fn jump_by(words: usize, room: &mut [u32], t: usize, pc: u32, offset: u32) -> Effect
-    requires { ⌜ InRoom (now room) t × (words ≤ 16384) × (pc < 65536) ⌝ }
+    requires { ⌜ InRoom (now room) t × (words ≤ programWords) × (pc < 65536) ⌝ }
     ensures { λ r. ⌜ step r (now (room .exit)) ≡ jumpBy words t (now (room .entry)) (now (room .entry)) pc offset ⌝ }
 {
     jump_to(words, room, t, std::num::wrapping_add_u32(pc, offset))
 }
 
 fn jump_and_link(words: usize, room: &mut [u32], t: usize, pc: u32, offset: u32) -> Effect
-    requires { ⌜ InRoom (now room) t × (words ≤ 16384) × (pc < 65536) ⌝ }
+    requires { ⌜ InRoom (now room) t × (words ≤ programWords) × (pc < 65536) ⌝ }
     ensures { λ r. ⌜ step r (now (room .exit)) ≡ jumpBy words t (now (room .entry)) (linked pc t (now (room .entry))) pc offset ⌝ }
 {
     let target = std::num::wrapping_add_u32(pc, offset);
@@ -51,7 +52,7 @@ fn jump_and_link(words: usize, room: &mut [u32], t: usize, pc: u32, offset: u32)
 
 // A branch, taken or not.
 fn branch(words: usize, room: &mut [u32], t: usize, pc: u32, taken: bool, offset: u32) -> Effect
-    requires { ⌜ InRoom (now room) t × (words ≤ 16384) × (pc < 65536) ⌝ }
+    requires { ⌜ InRoom (now room) t × (words ≤ programWords) × (pc < 65536) ⌝ }
     ensures { λ r. ⌜ step r (now (room .exit)) ≡ cond taken (jumpBy words t (now (room .entry)) (now (room .entry)) pc offset) (next pc t (now (room .entry))) ⌝ }
 {
     if taken {
@@ -70,7 +71,7 @@ pub fn jump(
     register: u32,
     offset: u32,
 ) -> Effect
-    requires { ⌜ InRoom (now room) t × (words ≤ 16384) × (pc < 65536) × (register < 64) ⌝ }
+    requires { ⌜ InRoom (now room) t × (words ≤ programWords) × (pc < 65536) × (register < 64) ⌝ }
     ensures { λ r. ⌜ step r (now (room .exit)) ≡ jump words t (now (room .entry)) pc op register offset ⌝ }
 {
     match op {

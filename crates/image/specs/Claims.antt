@@ -6,8 +6,7 @@ use mathlib.Core.Logic.{_↔_}
 use mathlib.Core.Path.{_≡_}
 use lib.ListN.{length, getD, take}
 use Rattle.answer.specs.Answer.{given}
-use Rattle.answer.specs.Refusal.{badMemory, imageLength}
-use Rattle.machine.specs.State.{roomWords}
+use Rattle.answer.specs.Refusal.{roomWords, badMemory, imageLength}
 use Rattle.machine.specs.State.{State}
 use Rattle.machine.specs.WellFormed.{wellFormed}
 use Rattle.image.specs.Calls.{writing, write, reading, read}

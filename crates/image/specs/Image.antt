@@ -5,7 +5,8 @@ use mathlib.Core.List.{List, [], _∷_, _++_}
 use mathlib.Core.Path.{_≡_}
 use lib.ListN.{length, getD, take, drop}
 use Rattle.answer.specs.Answer.{Answer, given, refused}
-use Rattle.machine.specs.State.{roomWords, scalarPlace, lanePlace}
+use Rattle.answer.specs.Refusal.{roomWords}
+use Rattle.machine.specs.State.{scalarPlace, lanePlace}
 use Rattle.machine.specs.State.{State, state}
 use Rattle.machine.specs.Machine.{zeroThread}
 use Rattle.machine.specs.WellFormed.{wellFormed}

@@ -2,6 +2,7 @@
 ghost use Prim.Native.Nat.{_+_, _*_, _≤_};
 ghost use mathlib.Core.Path.{_≡_};
 ghost use lib.ListN.{length};
+ghost use Rattle.answer.specs.Refusal.{roomWords};
 ghost use Rattle.image.specs.Calls.{restored, read};
 ghost use Rattle.image.specs.Image.{roomIn, registersIn, memoryIn};
 ghost use Rattle.image.specs.Join.{Grown};
@@ -37,7 +38,7 @@ fn take_room(shape: Shape, kind: Kind, n: usize, image: &[u8], registers: &mut [
 
 // The register room: SR holds its first 512 words, VR the rest.
 fn take_registers(shape: Shape, image: &[u8], registers: &mut [u32])
-    requires { ⌜ (shape .blocks ≤ 1024) × (startOf shape kinds ≤ length (now image)) × (length (now registers) ≡ 8704) ⌝ }
+    requires { ⌜ (shape .blocks ≤ 1024) × (startOf shape kinds ≤ length (now image)) × (length (now registers) ≡ roomWords) ⌝ }
     ensures { λ _. ⌜ now (registers .exit) ≡ registersIn shape (now (image .entry)) ⌝ }
 {
     take_room(shape, Kind::Sr, 64, image, registers, 0);

@@ -5,6 +5,7 @@ use mathlib.Core.List.{List, _++_}
 use mathlib.Core.Path.{_≡_}
 use lib.ListN.{length, getD}
 use Rattle.answer.specs.Answer.{given}
+use Rattle.answer.specs.Refusal.{roomWords}
 use Rattle.machine.specs.State.{State}
 use Rattle.machine.specs.WellFormed.{wellFormed}
 use Rattle.interpreter.specs.Answer.{spent}
@@ -23,7 +24,7 @@ Starts = (mask : ℕ) (room : List ℕ) → start mask room .answer ≡ given tt
 
 -- and a register room in which every s59 is 0xFFFF, and every other word 0
 pub record StartRoom (mask : ℕ) (room : List ℕ) : Type 0 where
-  pub size : length (start mask room .registers) ≡ 8704
+  pub size : length (start mask room .registers) ≡ roomWords
   pub masks : (t : ℕ) → t < 8 → getD (start mask room .registers) (scalarPlace t 59) 0 ≡ 0xFFFF
   pub zeros : (i : ℕ) → ((t : ℕ) → t < 8 → i ≡ scalarPlace t 59 → ⊥) → getD (start mask room .registers) i 0 ≡ 0
 

@@ -4,7 +4,7 @@ ghost use mathlib.Core.Bool.{cond};
 ghost use mathlib.Core.Path.{_≡_};
 ghost use lib.ListN.{length};
 ghost use Rattle.answer.specs.Answer.{given};
-ghost use Rattle.answer.specs.Refusal.{numbered};
+ghost use Rattle.answer.specs.Refusal.{numbered, programWords, roomWords};
 ghost use Rattle.machine.specs.State.{state};
 ghost use Rattle.interpreter.specs.Answer.{stopped, stuck, spent, answered};
 ghost use Rattle.interpreter.specs.Choosing.{idleEnding};
@@ -115,7 +115,7 @@ fn make_stretch(
     mut machine: Machine,
     budget: u32,
 ) -> Stretch
-    requires { ⌜ (length (now program) ≤ 16384) × (length (now registers) ≡ 8704) ⌝ }
+    requires { ⌜ (length (now program) ≤ programWords) × (length (now registers) ≡ roomWords) ⌝ }
     ensures { λ r. ⌜ Stretched (now (program .entry)) budget (state machine (now (registers .entry)) (now (memory .entry))) r (state (r .machine) (now (registers .exit)) (now (memory .exit))) ⌝ }
 {
     let mut made: u32 = 0;
@@ -167,7 +167,7 @@ fn make_issues(
     mut machine: Machine,
     budget: u32,
 ) -> Run
-    requires { ⌜ (length (now program) ≤ 16384) × (length (now registers) ≡ 8704) ⌝ }
+    requires { ⌜ (length (now program) ≤ programWords) × (length (now registers) ≡ roomWords) ⌝ }
     ensures { λ r. ⌜ outcome r (now (registers .exit)) (now (memory .exit)) ≡ accepted (now (program .entry)) budget (state machine (now (registers .entry)) (now (memory .entry))) ⌝ }
 {
     let mut made: u32 = 0;

@@ -5,6 +5,7 @@ use mathlib.Core.List.{List, [], _∷_, _++_}
 use lib.Dec.{eqb, ltb}
 use lib.ListN.{length, getD}
 use Rattle.answer.specs.Answer.{Answer, given, refused, undefined}
+use Rattle.answer.specs.Refusal.{programWords}
 use Rattle.names.specs.Name.{nameOf}
 use Rattle.isa.specs.Read.{read}
 use Rattle.isa.specs.Text.{bytes}
@@ -46,7 +47,7 @@ header n = bytes "words " ++ decimal n ++ bytes "\n"
 
 -- number 1: "program has 0 or more than 16,384 words (lister: also input not whole words)"
 abbrev pub bad : List ℕ → Bool
-bad input = eqb (length input) 0 || not (eqb (length input % 4) 0) || ltb (4 * 16384) (length input)
+bad input = eqb (length input) 0 || not (eqb (length input % 4) 0) || ltb (4 * programWords) (length input)
 
 -- "Bad input prints only `refused 1`."
 unfoldable pub listing : List ℕ → List ℕ

@@ -11,10 +11,6 @@ pub record State : Type 0 where
 abbrev pub state : Machine → List ℕ → List ℕ → State
 state m r d = record { machine = m; registers = r; memory = d }
 
--- "Register room: 8,704 lent words."
-abbrev pub roomWords : ℕ
-roomWords = 8704
-
 -- "Thread t (0..7), scalar i at 64t+i; vector i, lane j at 512+1024t+16i+j."
 abbrev pub scalarPlace : ℕ → ℕ → ℕ
 scalarPlace t i = 64 * t + i
