@@ -128,7 +128,15 @@ pub fn operate_r(room: &mut [u32], t: usize, op: Operation, flags: u32, d: u32, 
     }
 }
 
-pub fn operate_i(room: &mut [u32], t: usize, op: Operation, flags: u32, d: u32, a: u32, immediate: u32)
+pub fn operate_i(
+    room: &mut [u32],
+    t: usize,
+    op: Operation,
+    flags: u32,
+    d: u32,
+    a: u32,
+    immediate: u32,
+)
     requires { ⌜ InRoom (now room) t × (d < 64) × (a < 64) ⌝ }
     ensures { λ _. ⌜ now (room .exit) ≡ operateI (now (room .entry)) t op flags d a immediate ⌝ }
 {
