@@ -13,6 +13,7 @@ use Rattle.machine.specs.Machine.{allThreads, zeroThread, statusAt, bit}
 use Rattle.machine.specs.Status.{isIdle, waitsOtherwise, carriesInRange, ifWaiting}
 use Rattle.machine.specs.WellFormed.{waiting, disputed, numbersInRange, idleIfDisabled, countAgreed, fewerWait, wellFormed}
 use Rattle.machine.specs.Types.{Status, Idle, Running, Ended, Trapped, Waiting, Machine}
+use Rattle.machine.proofs.Meetings.{disputes}
 use Rattle.machine.proofs.Tests.{never, both}
 use Rattle.machine.proofs.Threads.{all-at, all-threads, none-at, no-thread}
 
@@ -121,7 +122,7 @@ module _ (m : Machine) where
   -- another thread that waits where none disputes the count has that count
   pub undisputed : length (m .threads) ≡ 8 → (t u id c d : ℕ) → disputed m t id c ≡ false → (u ≡ t → ⊥) → statusAt m u ≡ Waiting id d → c ≡ d
   undisputed e t u id c d h x g =
-      let y = none-at (λ v. not (eqb v t) && waitsOtherwise id c (statusAt m v)) h u (is-thread m e u (ap isIdle g)) in
+      let y = none-at (disputes m t id c) h u (is-thread m e u (ap isIdle g)) in
       same-count id c d (sym (ap (waitsOtherwise id c) g) ∙ (sym (ap (λ q. not q && waitsOtherwise id c (statusAt m u)) (ne-eqb u t x)) ∙ y))
 
   counts-agree : length (m .threads) ≡ 8 → allThreads (countAgreed m) ≡ true
@@ -169,7 +170,7 @@ module _ (m : Machine) where
   agreed-test : WellFormed m → (t : ℕ) → t < 8 → countAgreed m t ≡ true
   agreed-test w t l =
       waiting-if (statusAt m t) (λ id count. not (disputed m t id count))
-      (λ id count e. ap not (no-thread (λ u. not (eqb u t) && waitsOtherwise id count (statusAt m u))
+      (λ id count e. ap not (no-thread (disputes m t id count)
       (λ u k. rw (waits-same id count (statusAt m u) (λ d f. w .agreed t u id count d e f)) (and-false (not (eqb u t))))))
 
   fewer-test : WellFormed m → (t : ℕ) → t < 8 → fewerWait m t ≡ true

@@ -1,4 +1,4 @@
--- Laws of the loops over the eight threads: one that searches goes by `from`, one that changes every entry by `restated`.
+-- Laws of the loops over the eight threads: one that searches or counts goes by `from`, one that changes every entry by `restated`.
 use Prim.Native.Nat.{ℕ, zero, suc, _+_, _-_, _<_, _≤_}
 use mathlib.Core.Bool.{Bool, true, false, cond}
 use mathlib.Core.Path.{_≡_, refl, sym, ap, _∙_}
@@ -9,7 +9,8 @@ use borrow.Author.Tests.{eqb-true, eqb-false, ltb-true, ltb-false}
 use lib.Dec.{eqb, ltb}
 use lib.ListN.{length, getD, set}
 use lib.Seq.{set-getD, set-out}
-use Rattle.machine.specs.Machine.{zeroThread, statusAt, withStatus, withStatusAt}
+use Rattle.machine.specs.Machine.{anyThread, countThreads, zeroThread, statusAt, withStatus, withStatusAt}
+use Rattle.machine.specs.Search.{any, count}
 use Rattle.machine.specs.Types.{Status, Thread, Machine}
 
 -- n numbers from k up
@@ -31,6 +32,52 @@ look find k n l e = ap find (from-step k n l) ∙ e
 
 pub stop : {B : Type 0} (find : List ℕ → B) {b : B} (k n : ℕ) → n ≤ k → find [] ≡ b → find (from k (n - k)) ≡ b
 stop find k n l e = ap find (from-end k n l) ∙ e
+
+module _ (p : ℕ → Bool) where
+  -- a search for a thread that passes, now at k: none did so far, and the rest decides
+  abbrev pub Searching : ℕ → Type 0
+  Searching k = anyThread p ≡ any p (from k (8 - k))
+
+  pub search-start : Searching 0
+  unfolding anyThread from
+  search-start = refl
+
+  pub search-found : (k : ℕ) → Searching k → k < 8 → p k ≡ true → anyThread p ≡ true
+  unfolding any
+  search-found k s l h = s ∙ look (any p) k 8 l (rw h)
+
+  pub search-on : (k : ℕ) → Searching k → k < 8 → p k ≡ false → Searching (k + 1)
+  unfolding any
+  search-on k s l h = s ∙ look (any p) k 8 l (rw h)
+
+  pub search-done : (k : ℕ) → Searching k → 8 ≤ k → anyThread p ≡ false
+  unfolding any
+  search-done k s l = s ∙ stop (any p) k 8 l refl
+
+  -- a count of the threads that pass, now at k: n did so far, and the rest is to be added
+  pub record Counting (k n : ℕ) : Type 0 where
+    pub few : n ≤ k
+    pub sum : countThreads p ≡ n + count p (from k (8 - k))
+
+  pub count-start : Counting 0 0
+  unfolding countThreads from
+  count-start = record { few = omega arith; sum = omega arith }
+
+  pub count-one : {n r : ℕ} (k : ℕ) → Counting k n → k < 8 → p k ≡ true → r ≡ n + 1 → Counting (k + 1) r
+  unfolding count
+  count-one k c l h e =
+      let f : count p (from k (8 - k)) ≡ suc (count p (from (k + 1) (8 - (k + 1)))) = look (count p) k 8 l (rw h) in
+      record { few = omega arith; sum = omega arith }
+
+  pub count-on : {n r : ℕ} (k : ℕ) → Counting k n → k < 8 → p k ≡ false → r ≡ n → Counting (k + 1) r
+  unfolding count
+  count-on k c l h e =
+      let f : count p (from k (8 - k)) ≡ count p (from (k + 1) (8 - (k + 1))) = look (count p) k 8 l (rw h) in
+      record { few = omega arith; sum = omega arith }
+
+  pub count-done : {n : ℕ} (k : ℕ) → Counting k n → 8 ≤ k → countThreads p ≡ n
+  unfolding count
+  count-done k c l = let f : count p (from k (8 - k)) ≡ 0 = stop (count p) k 8 l refl in omega arith
 
 -- the entries with the first t restated: entry u has the status s u
 unfoldable pub restated : (ℕ → Status) → List Thread → ℕ → List Thread

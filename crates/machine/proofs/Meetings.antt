@@ -1,13 +1,22 @@
 -- Laws of a meeting at a barrier.
 use Prim.Native.Nat.{ℕ, _+_, _≤_}
-use mathlib.Core.Bool.{false, _||_}
+use mathlib.Core.Bool.{Bool, false, _&&_, _||_, not}
 use mathlib.Core.Path.{_≡_}
 use borrow.Author.Tests.{ltb-false}
-use lib.Dec.{ltb}
+use lib.Dec.{ltb, eqb}
 use Rattle.machine.specs.Barrier.{refusesMeeting}
+use Rattle.machine.specs.Machine.{statusAt}
+use Rattle.machine.specs.Status.{waitsAt, waitsOtherwise}
 use Rattle.machine.specs.WellFormed.{disputed}
 use Rattle.machine.specs.Types.{Machine}
 use Rattle.machine.proofs.Tests.{neither}
+
+-- thread u waits at the barrier, and thread u disputes the count
+abbrev pub waitsHere : Machine → ℕ → ℕ → Bool
+waitsHere m id u = waitsAt id (statusAt m u)
+
+abbrev pub disputes : Machine → ℕ → ℕ → ℕ → ℕ → Bool
+disputes m thread id count u = not (eqb u thread) && waitsOtherwise id count (statusAt m u)
 
 -- a meeting that does not trap
 pub record Admitted (m : Machine) (t id second : ℕ) : Type 0 where

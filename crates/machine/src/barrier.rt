@@ -25,7 +25,7 @@ fn released(status: Status, id: u8) -> Status
 
 impl Machine {
     // Whether another thread waits at a barrier with another count.
-    pub(crate) fn disputed(self, thread: usize, id: u8, count: u8) -> bool
+    fn disputed(self, thread: usize, id: u8, count: u8) -> bool
         ensures { λ r. ⌜ r ≡ disputed self thread id count ⌝ }
     {
         for t in 0..8 {
@@ -38,7 +38,7 @@ impl Machine {
     }
 
     // How many threads wait at a barrier.
-    pub(crate) fn waiting(self, id: u8) -> usize
+    fn waiting(self, id: u8) -> usize
         ensures { λ r. ⌜ r ≡ waiting self id ⌝ }
     {
         let mut n: usize = 0;

@@ -11,8 +11,27 @@ use crate::record::is_disabled;
 use crate::status::Status;
 use crate::status::carries_in_range;
 use crate::status::is_idle;
+use crate::status::waits_at;
+use crate::status::waits_otherwise;
 
 impl Machine {
+    // Of a thread that waits: whether all that wait with it name its count, and are fewer. One pass, at the start of a run.
+    fn fewer_agree(self, thread: usize, id: u8, count: u8) -> bool
+        ensures { λ r. ⌜ r ≡ (not (disputed self thread id count) && ltb (waiting self id) count) ⌝ }
+    {
+        let mut n: usize = 0;
+        for t in 0..8 {
+            let status = self.status_at(t);
+            if (t != thread) & waits_otherwise(status, id, count) {
+                return false;
+            }
+            if waits_at(status, id) {
+                n += 1;
+            }
+        }
+        n < count as usize
+    }
+
     // Of a waiting thread: all that wait with it name its count, and they are fewer.
     fn meeting_in_order(self, thread: usize, status: Status) -> bool
         ensures { λ r. ⌜ r ≡ (ifWaiting status (λ id count. not (disputed self thread id count)) && ifWaiting status (λ id count. ltb (waiting self id) count)) ⌝ }
@@ -22,11 +41,7 @@ impl Machine {
             Status::Running => true,
             Status::Ended => true,
             Status::Trapped(_) => true,
-            Status::Waiting(id, count) => {
-                let n = self.waiting(id);
-                let other = self.disputed(thread, id, count);
-                !other & (n < count as usize)
-            }
+            Status::Waiting(id, count) => self.fewer_agree(thread, id, count),
         }
     }
 

@@ -1,55 +1,46 @@
 -- `disputed` meets its contract.
-use Prim.Native.Nat.{ℕ, _-_, _≤_}
-use mathlib.Core.Path.{_≡_, refl, sym, _∙_}
-use mathlib.Core.Bool.{Bool, true, false, _&&_, not}
+use Prim.Native.Nat.{_-_}
+use mathlib.Core.Path.{_≡_, sym}
+use mathlib.Core.Bool.{true, false}
 use native.Mathlib.Omega.{arith}
 use borrow.Author.Needs.{needs}
-use lib.Dec.{eqb}
-use Rattle.machine.specs.Machine.{anyThread, statusAt}
-use Rattle.machine.specs.Status.{waitsOtherwise}
-use Rattle.machine.specs.WellFormed.{disputed}
-use Rattle.machine.specs.Search.{any}
-use Rattle.machine.specs.Types.{Machine}
-use Rattle.machine.proofs.Loops.{from, look, stop}
+use Rattle.machine.proofs.Loops.{Searching, search-start, search-found, search-on, search-done}
+use Rattle.machine.proofs.Meetings.{disputes}
 use Rattle.machine.proofs.record.Machine.disputed.Statement.{statement}
 use Rattle.machine.proofs.record.Machine.disputed.Tie as tie
 
--- thread u disputes
-abbrev disputes : Machine → ℕ → ℕ → ℕ → ℕ → Bool
-disputes m thread id count u = not (eqb u thread) && waitsOtherwise id count (statusAt m u)
-
 abbrev Inv-loop : tie.InvT-loop
-Inv-loop self thread id count t₀ t = (t ≤ 8) × (disputed self thread id count ≡ any (disputes self thread id count) (from t (8 - t)))
+Inv-loop self thread id count t₀ t = Searching (disputes self thread id count) t
 
 abbrev μ-loop : tie.MeasureT-loop
 μ-loop self thread id count t₀ t = 8 - t
 
 loop-holds : tie.Need-loop-holds Inv-loop μ-loop
-unfolding anyThread from
-loop-holds c = (omega arith, refl)
+loop-holds c = search-start (disputes (c .args .self) (c .args .thread) (c .args .id) (c .args .count))
 
 returns : tie.Need-returns Inv-loop μ-loop
-unfolding any
 returns c =
     let l = c .before .before .before .before .loop in
     let a = c .before .before .before .before .before .args in
-    let h : disputes (a .self) (a .thread) (a .id) (a .count) (l .t) ≡ true = cc in
-    sym (l .inv .1 ∙ look (any (disputes (a .self) (a .thread) (a .id) (a .count))) (l .t) 8 (omega arith) (rw h))
+    let d = disputes (a .self) (a .thread) (a .id) (a .count) in
+    let h : d (l .t) ≡ true =
+    rw (← c .before .before .status-at .ensures, ← c .before .waits-otherwise .ensures) (c .if1 .taken) in
+    sym (search-found d (l .t) (l .inv) (c .before .before .before .loop-test .taken) h)
 
 loop-again : tie.Need-loop-again Inv-loop μ-loop
-unfolding any
 loop-again c =
     let l = c .before .before .before .before .loop in
     let a = c .before .before .before .before .before .args in
-    let h : disputes (a .self) (a .thread) (a .id) (a .count) (l .t) ≡ false = cc in
-    (omega arith, l .inv .1 ∙ look (any (disputes (a .self) (a .thread) (a .id) (a .count))) (l .t) 8 (omega arith) (rw h))
+    let d = disputes (a .self) (a .thread) (a .id) (a .count) in
+    let h : d (l .t) ≡ false =
+    rw (← c .before .before .status-at .ensures, ← c .before .waits-otherwise .ensures) (c .if1 .left) in
+    search-on d (l .t) (l .inv) (c .before .before .before .loop-test .taken) h
 
 returns-2 : tie.Need-returns-2 Inv-loop μ-loop
-unfolding any
 returns-2 c =
     let l = c .before .loop in
     let a = c .before .before .args in
-    sym (l .inv .1 ∙ stop (any (disputes (a .self) (a .thread) (a .id) (a .count))) (l .t) 8 (c .loop-test .left) refl)
+    sym (search-done (disputes (a .self) (a .thread) (a .id) (a .count)) (l .t) (l .inv) (c .loop-test .left))
 
 pub disputed-spec : {M : Type 1} → statement M
 disputed-spec =

@@ -7,6 +7,6 @@ pub meeting-in-order-spec : {M : Type 1} → statement M
 meeting-in-order-spec =
     tie.close
     (tie.spec (λ c. search needs) (λ c. search needs) (λ c. search needs) (λ c. search needs) (λ c. search needs)
-    (λ c κs. search needs) (λ c κs. search needs) (λ c. search needs)
+    (λ c κs. search needs)
     (λ c. search needs) (λ c. search needs) (λ c. search needs) (λ c. search needs)
-    (λ c. rw (c .before .before .before .status .given .1, ← c .disputed .ensures, ← c .before .waiting .ensures)))
+    (λ c. rw (c .before .before .status .given .1) (c .fewer-agree .ensures)))
