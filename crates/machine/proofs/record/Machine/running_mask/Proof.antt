@@ -14,44 +14,53 @@ use Rattle.machine.proofs.Nearest.{bits-lt}
 use Rattle.machine.proofs.record.Machine.running_mask.Statement.{statement}
 use Rattle.machine.proofs.record.Machine.running_mask.Tie as tie
 
--- the bits of the threads passed, from the last thread down
+-- the mask of the threads passed, j of them, from the last thread down
+record Masked (p : ℕ → Bool) (j mask : ℕ) : Type 0 where
+  few : j ≤ 8
+  small : mask ≤ 255
+  same : mask ≡ bits p (from (8 - j) j)
+
+plus-bit : (b : Bool) (n : ℕ) → cond b (n + 1) n ≡ n + cond b 1 0
+plus-bit true n = refl
+plus-bit false n = omega arith
+
+-- one thread more: the mask doubles, and has the thread's bit
+one-more : (p : ℕ → Bool) (j : ℕ) {mask r : ℕ} (b : Bool) → Masked p j mask → j < 8 → p (7 - j) ≡ b → r ≡ cond b (2 * mask + 1) (2 * mask) → Masked p (j + 1) r
+unfolding bits from
+one-more p j {mask} {r} b k l h e =
+    let d : 8 - (j + 1) ≡ 7 - j = omega arith in
+    let f : 8 - j ≡ suc (7 - j) = omega arith in
+    let g : bits p (from (8 - (j + 1)) (j + 1)) ≡ cond b 1 0 + 2 * bits p (from (8 - j) j) = rw (d, f, add-one, h) in
+    let small = bits-lt p (8 - (j + 1)) (j + 1) in
+    let eight : 2 ^ (j + 1) ≤ 256 = pow-mono {j = 8} (omega arith) in
+    let sum = plus-bit b (2 * mask) in
+    record { few = omega arith; small = omega arith; same = omega arith }
+
 abbrev Inv-loop : tie.InvT-loop
-Inv-loop self mask₀ passed₀ mask passed = (passed ≤ 8) × (mask ≤ 255) × (mask ≡ bits (runs self) (from (8 - passed) passed))
+Inv-loop self mask₀ passed₀ mask passed = Masked (runs self) passed mask
 
 abbrev μ-loop : tie.MeasureT-loop
 μ-loop self mask₀ passed₀ mask passed = 8 - passed
 
 loop-holds : tie.Need-loop-holds Inv-loop μ-loop
 unfolding bits from
-loop-holds c = (omega arith, omega arith, refl)
-
-one-more : (p : ℕ → Bool) (j : ℕ) → j < 8 → bits p (from (8 - (j + 1)) (j + 1)) ≡ cond (p (7 - j)) 1 0 + 2 * bits p (from (8 - j) j)
-unfolding bits from
-one-more p j l =
-    let e : 8 - (j + 1) ≡ 7 - j = omega arith in
-    let f : 8 - j ≡ suc (7 - j) = omega arith in
-    rw (e, f, add-one)
+loop-holds c = record { few = omega arith; small = omega arith; same = refl }
 
 loop-again : tie.Need-loop-again Inv-loop μ-loop
 loop-again c =
     let l = c .before .before .before .before .loop in
     let m = c .before .before .before .before .before .args .self in
-    let more = one-more (runs m) (l .passed) (omega arith) in
-    let e : c .if1 .mask ≡ bits (runs m) (from (8 - (l .passed + 1)) (l .passed + 1)) =
-    ⊎-elim
-    (λ w. let h : runs m (7 - l .passed) ≡ true = cc in let b : cond {A = ℕ} (runs m (7 - l .passed)) 1 0 ≡ 1 = rw h in omega arith)
-    (λ w. let h : runs m (7 - l .passed) ≡ false = cc in let b : cond {A = ℕ} (runs m (7 - l .passed)) 1 0 ≡ 0 = rw h in omega arith)
-    (c .if1 .came) in
-    let small = bits-lt (runs m) (8 - (l .passed + 1)) (l .passed + 1) in
-    let eight : 2 ^ (l .passed + 1) ≤ 256 = pow-mono {j = 8} (omega arith) in
-    (omega arith, omega arith, e)
+    let left = c .before .before .before .loop-test .taken in
+    let e : runs m (7 - l .passed) ≡ c .before .is-running .result = rw (← c .before .before .status-at .ensures, ← c .before .is-running .ensures) in
+    ⊎-elim (λ x. one-more (runs m) (l .passed) true (l .inv) left (e ∙ x .0 .taken) (x .1))
+    (λ x. one-more (runs m) (l .passed) false (l .inv) left (e ∙ x .0 .left) (x .1)) (c .if1 .came)
 
 returns : tie.Need-returns Inv-loop μ-loop
 unfolding from
 returns c =
     let l = c .before .loop in
     let e : l .passed ≡ 8 = omega arith in
-    l .inv .2 ∙ ap (λ n. bits (runs (c .before .before .args .self)) (from (8 - n) n)) e
+    l .inv .same ∙ ap (λ n. bits (runs (c .before .before .args .self)) (from (8 - n) n)) e
 
 pub running-mask-spec : {M : Type 1} → statement M
 running-mask-spec =

@@ -1,5 +1,5 @@
 -- `well_formed` meets its contract.
-use Prim.Native.Nat.{_-_, _≤_}
+use Prim.Native.Nat.{_-_}
 use mathlib.Core.Bool.{true, false}
 use mathlib.Core.Path.{_≡_, refl, sym, _∙_}
 use native.Mathlib.Omega.{arith}
@@ -14,7 +14,7 @@ use Rattle.machine.proofs.record.Machine.well_formed.Statement.{stateme
 use Rattle.machine.proofs.record.Machine.well_formed.Tie as tie
 
 abbrev Inv-loop : tie.InvT-loop
-Inv-loop self enabled last thread₀ thread = (thread ≤ 8) × (wellFormed self ≡ all (inOrder self) (from thread (8 - thread)))
+Inv-loop self enabled last thread₀ thread = wellFormed self ≡ all (inOrder self) (from thread (8 - thread))
 
 abbrev μ-loop : tie.MeasureT-loop
 μ-loop self enabled last thread₀ thread = 8 - thread
@@ -30,7 +30,7 @@ unfolding from
 loop-holds c =
     let m = c .before .before .args .self in
     let eight : length (m .threads) ≡ 8 = sym (length-map (m .threads) _) ∙ c .before .before .good .0 .1 .1 .1 .0 .1 .0 .1 in
-    (omega arith, by-entries m (omega (arith, c .before .if1 .left)) (omega arith) (omega arith) eight)
+    by-entries m (omega (arith, c .before .if1 .left)) (omega arith) (omega arith) eight
 
 -- an entry is not in order
 returns-3 : tie.Need-returns-3 Inv-loop μ-loop
@@ -38,23 +38,23 @@ unfolding all
 returns-3 c =
     let l = c .before .before .before .loop in
     let m = c .before .before .before .before .before .before .args .self in
-    let h : inOrder m (l .thread) ≡ false = cc (not-true (c .before .entry-in-order .result) (c .if3 .taken)) in
-    sym (l .inv .1 ∙ look (all (inOrder m)) (l .thread) 8 (omega arith) (rw h))
+    let h : inOrder m (l .thread) ≡ false = sym (c .before .entry-in-order .ensures) ∙ not-true (c .before .entry-in-order .result) (c .if3 .taken) in
+    sym (l .inv ∙ look (all (inOrder m)) (l .thread) 8 (c .before .before .loop-test .taken) (rw h))
 
 loop-again : tie.Need-loop-again Inv-loop μ-loop
 unfolding all
 loop-again c =
     let l = c .before .before .before .loop in
     let m = c .before .before .before .before .before .before .args .self in
-    let h : inOrder m (l .thread) ≡ true = cc (not-false (c .before .entry-in-order .result) (c .if3 .left)) in
-    (omega arith, l .inv .1 ∙ look (all (inOrder m)) (l .thread) 8 (omega arith) (rw h))
+    let h : inOrder m (l .thread) ≡ true = sym (c .before .entry-in-order .ensures) ∙ not-false (c .before .entry-in-order .result) (c .if3 .left) in
+    l .inv ∙ look (all (inOrder m)) (l .thread) 8 (c .before .before .loop-test .taken) (rw h)
 
 returns-4 : tie.Need-returns-4 Inv-loop μ-loop
 unfolding all
 returns-4 c =
     let l = c .before .loop in
     let m = c .before .before .before .before .args .self in
-    sym (l .inv .1 ∙ stop (all (inOrder m)) (l .thread) 8 (c .loop-test .left) refl)
+    sym (l .inv ∙ stop (all (inOrder m)) (l .thread) 8 (c .loop-test .left) refl)
 
 pub well-formed-spec : {M : Type 1} → statement M
 well-formed-spec =
