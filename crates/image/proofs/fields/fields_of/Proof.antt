@@ -8,4 +8,6 @@ fields-of-spec =
     tie.close
     (tie.spec (λ c. search needs) (λ c κs. search needs) (λ c. search needs) (λ c κs. search needs) (λ c. search needs)
     (λ c κs. search needs) (λ c. search needs) (λ c κs. search needs) (λ c. search needs) (λ c κs. search needs)
-    (λ c. cc) (λ c. cc) (λ c. cc) (λ c. cc) (λ c. cc))
+    (λ c. rw (c .before .enum-told .given .1) (c .numbers .ensures)) (λ c. rw (c .before .enum-told2 .given .1) (c .numbers2 .ensures))
+    (λ c. rw (c .before .enum-told3 .given .1) (c .numbers3 .ensures)) (λ c. rw (c .before .before .status .given .1) (c .numbers4 .ensures))
+    (λ c. rw (c .before .before .status2 .given .1) (c .numbers5 .ensures)))
