@@ -1,5 +1,6 @@
 -- The claims of specs/, proved.
 pub use Rattle.image.proofs.Openings.{opens-with}
+pub use Rattle.image.proofs.Records.{record-again}
 pub use Rattle.image.proofs.Numbers.{exact}
 pub use Rattle.image.proofs.Places.{begins, placed}
 pub use Rattle.image.proofs.RoundTrip.{written-then-read, read-then-written, reads-exactly}

@@ -12,6 +12,7 @@ pub mod RecordIn
 pub mod Openings
 pub mod Rooms
 pub mod Written
+pub mod Records
 pub mod Restored
 pub mod Places
 pub mod RoundTrip

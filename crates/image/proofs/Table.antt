@@ -11,7 +11,7 @@ use lib.ListN.{length, getD, take, drop}
 use lib.Seq.{take-all, take-add, take-at, drop-drop, drop-at, getD-drop, getD-take}
 use Rattle.machine.proofs.Tests.{both}
 use Rattle.image.specs.Join.{joined}
-use Rattle.image.specs.Layout.{kinds, rowOf, kindAt, orderOf, headLength, headOf, recordSize, extentOf, recordOf, sectionOf, laidOut, startOf, recordAt, bodyAt, bodyIn, standsAt, headsOf, headsIn}
+use Rattle.image.specs.Layout.{kinds, rowOf, kindAt, orderOf, headLength, headOf, recordSize, extentOf, recordOf, sectionOf, laidUpTo, laidOut, startOf, recordAt, bodyAt, bodyIn, standsAt, headsOf, headsUpTo, headsIn}
 use Rattle.image.specs.Types.{Kind, Shape, Row}
 use Rattle.image.proofs.Join.{fits-in}
 use Rattle.image.proofs.Parts.{cut-take, joined-same, piece, pieces, piece-even, pieces-even}
@@ -104,25 +104,33 @@ unfolding sectionOf recordOf
 section-same r f g h =
     joined-same (r .count) (λ i. headOf r i ++ f i) (λ i. headOf r i ++ g i) (λ i k. ap (λ z. headOf r i ++ z) (h i k))
 
+-- The first n kinds.
+
+module _ (n : ℕ) (s : Shape) (body : Kind → ℕ → List ℕ) (even : (q : ℕ) → q < n → (i : ℕ) → i < rowOf s (kindAt q) .count → length (body (kindAt q) i) ≡ rowOf s (kindAt q) .size) where
+  kind-here : (q : ℕ) → q < n → take (extentOf (rowOf s (kindAt q))) (drop (startOf s q) (laidUpTo n s body)) ≡ sectionAt s body q
+  unfolding startOf
+  kind-here q h = piece n q (sectionAt s body) (λ p. extentOf (rowOf s (kindAt p))) (λ p l. section-length (rowOf s (kindAt p)) (body (kindAt p)) (even p l)) h
+
+  -- writing, then reading: every body is found at its fixed place
+  pub body-up-to : (q : ℕ) → q < n → (i : ℕ) → i < rowOf s (kindAt q) .count → bodyAt (rowOf s (kindAt q)) (startOf s q) (laidUpTo n s body) i ≡ body (kindAt q) i
+  body-up-to q l = body-read (rowOf s (kindAt q)) (body (kindAt q)) (even q l) (startOf s q) (laidUpTo n s body) (kind-here q l)
+
+  -- and every mark and place number is right
+  pub heads-up-to : headsUpTo n s (laidUpTo n s body) ≡ true
+  heads-up-to =
+      all-intro n (λ q. headsOf (rowOf s (kindAt q)) (laidUpTo n s body) (startOf s q))
+      (λ q l. heads-read (rowOf s (kindAt q)) (body (kindAt q)) (even q l) (startOf s q) (laidUpTo n s body) (kind-here q l))
+
 -- The whole image.
 
 module _ (s : Shape) (body : Kind → ℕ → List ℕ) (even : (k : Kind) (i : ℕ) → i < rowOf s k .count → length (body k i) ≡ rowOf s k .size) where
-  kind-here : (q : ℕ) → q < kinds → take (extentOf (rowOf s (kindAt q))) (drop (startOf s q) (laidOut s body)) ≡ sectionAt s body q
-  unfolding laidOut startOf
-  kind-here q h = piece kinds q (sectionAt s body) (λ p. extentOf (rowOf s (kindAt p))) (λ p _. section-length (rowOf s (kindAt p)) (body (kindAt p)) (even (kindAt p))) h
-
-  -- writing, then reading: every body is found at its fixed place
   pub laid-body : (k : Kind) (i : ℕ) → i < rowOf s k .count → bodyIn s (laidOut s body) k i ≡ body k i
-  laid-body k i h =
-      let e : take (extentOf (rowOf s k)) (drop (startOf s (orderOf k)) (laidOut s body)) ≡ sectionOf (rowOf s k) (body k) = rw (kind-order k) at (kind-here (orderOf k) (order-few k)) in
-      body-read (rowOf s k) (body k) (even k) (startOf s (orderOf k)) (laidOut s body) e i h
+  unfolding laidOut
+  laid-body k = rw (kind-order k) at (body-up-to kinds s body (λ q _. even (kindAt q)) (orderOf k) (order-few k))
 
-  -- and every mark and place number is right
   pub laid-heads : headsIn s (laidOut s body) ≡ true
-  unfolding headsIn
-  laid-heads =
-      all-intro kinds (λ q. headsOf (rowOf s (kindAt q)) (laidOut s body) (startOf s q))
-      (λ q h. heads-read (rowOf s (kindAt q)) (body (kindAt q)) (even (kindAt q)) (startOf s q) (laidOut s body) (kind-here q h))
+  unfolding headsIn laidOut
+  laid-heads = heads-up-to kinds s body (λ q _. even (kindAt q))
 
 kinds-back : (s : Shape) (l : List ℕ) → joined kinds (λ q. take (extentOf (rowOf s (kindAt q))) (drop (startOf s q) l)) ≡ take (startOf s kinds) l
 unfolding startOf

@@ -48,6 +48,37 @@ module _ (m : Machine) (h : wellFormed m ≡ true) where
       (both (leb 1 (m .enabled) && leb (m .enabled) 255 && leb (m .last) 7) (eqb (length (m .threads)) 8)
       (both (leb 1 (m .enabled) && leb (m .enabled) 255 && leb (m .last) 7 && eqb (length (m .threads)) 8) (allThreads (λ t. carriesInRange (statusAt m t))) in-range .0) .1)
 
+-- The record, in any bytes that hold it at the fixed places of HD and TH.
+
+module _ (a : Shape) (l : List ℕ) (m : Machine) (h : wellFormed m ≡ true) (hd : bodyIn a l Hd 0 ≡ bodyOf (state m [] []) Hd 0)
+    (th : (t : ℕ) → t < 8 → bodyIn a l Th t ≡ bodyOf (state m [] []) Th t) where
+  abbrev entry : ℕ → Thread
+  entry t = getD (m .threads) t zeroThread
+
+  entry-held : (t : ℕ) → t < 8 → entryIn a l t ≡ given (entry t)
+  unfolding entryIn
+  entry-held t k =
+      let e : fieldsIn (bodyIn a l Th t) ≡ fieldsOf (entry t) = ap fieldsIn (th t k) in
+      exact (fieldsIn (bodyIn a l Th t)) (entry t) .1 (sym e)
+
+  threads-held : threadsIn a l ≡ m .threads
+  unfolding threadsIn
+  threads-held =
+      joined-same 8 (λ t. entryOr (entryIn a l t) ∷ []) (λ t. getD (m .threads) (0 + t) zeroThread ∷ [])
+      (λ t k. ap (λ e. entryOr e ∷ []) (entry-held t k) ∙ ap (λ z. entry z ∷ []) (let z : t ≡ 0 + t = omega arith in z))
+      ∙ (joined-read zeroThread 8 0 (m .threads) (omega (arith, eight m h)) ∙ take-all 8 (m .threads) (le-of-eq (eight m h)))
+
+  pub machine-held : machineIn a l ≡ m
+  unfolding machineIn
+  machine-held = (λ i. record { enabled = getD (hd i) 1 0; last = getD (hd i) 0 0; threads = threads-held i })
+
+  pub record-held : recordIn a l ≡ true
+  unfolding recordIn
+  record-held =
+      two (allBelow 8 (λ t. isEntry (entryIn a l t))) (wellFormed (machineIn a l))
+      (all-intro 8 (λ t. isEntry (entryIn a l t)) (λ t k. ap isEntry (entry-held t k)))
+      (ap wellFormed machine-held ∙ h)
+
 -- Words laid out in rows of n, from place p on.
 
 rows-back : (n count p : ℕ) (words : List ℕ) → Words words → p + n * count ≤ length words
@@ -98,34 +129,11 @@ module _ (s : State) (w : Lengths (s .registers) (s .memory)) where
     registers-back = (λ i. scalars i ++ vectors i) ∙ (sym (take-add 512 8192 (s .registers)) ∙ take-all 8704 (s .registers) (le-of-eq (w .room)))
 
   module _ (h : wellFormed (s .machine) ≡ true) where
-    abbrev entry : ℕ → Thread
-    entry t = getD (s .machine .threads) t zeroThread
-
-    entry-back : (t : ℕ) → t < 8 → entryIn a l t ≡ given (entry t)
-    unfolding entryIn
-    entry-back t k =
-        let e : fieldsIn (bodyIn a l Th t) ≡ fieldsOf (entry t) = ap fieldsIn (body Th t k) in
-        exact (fieldsIn (bodyIn a l Th t)) (entry t) .1 (sym e)
-
-    threads-back : threadsIn a l ≡ s .machine .threads
-    unfolding threadsIn
-    threads-back =
-        joined-same 8 (λ t. entryOr (entryIn a l t) ∷ []) (λ t. getD (s .machine .threads) (0 + t) zeroThread ∷ [])
-        (λ t k. ap (λ e. entryOr e ∷ []) (entry-back t k) ∙ ap (λ z. entry z ∷ []) (let z : t ≡ 0 + t = omega arith in z))
-        ∙ (joined-read zeroThread 8 0 (s .machine .threads) (omega (arith, eight (s .machine) h)) ∙ take-all 8 (s .machine .threads) (le-of-eq (eight (s .machine) h)))
-
     pub machine-back : machineIn a l ≡ s .machine
-    unfolding machineIn
-    machine-back =
-        let e = body Hd 0 (omega arith) in
-        (λ i. record { enabled = getD (e i) 1 0; last = getD (e i) 0 0; threads = threads-back i })
+    machine-back = machine-held a l (s .machine) h (body Hd 0 (omega arith)) (body Th)
 
     pub record-back : recordIn a l ≡ true
-    unfolding recordIn
-    record-back =
-        two (allBelow 8 (λ t. isEntry (entryIn a l t))) (wellFormed (machineIn a l))
-        (all-intro 8 (λ t. isEntry (entryIn a l t)) (λ t k. ap isEntry (entry-back t k)))
-        (ap wellFormed machine-back ∙ h)
+    record-back = record-held a l (s .machine) h (body Hd 0 (omega arith)) (body Th)
 
     pub state-back : Words (s .registers) → stateIn a l ≡ s
     state-back b = (λ i. state (machine-back i) (registers-back b i) (memory-back i))

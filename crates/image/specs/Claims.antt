@@ -3,6 +3,7 @@ use Prim.Native.Nat.{ℕ, _<_}
 use mathlib.Core.Bool.{true, false}
 use mathlib.Core.List.{List}
 use mathlib.Core.Logic.{_↔_}
+use mathlib.Core.Option.{none}
 use mathlib.Core.Path.{_≡_}
 use lib.ListN.{length, getD, take}
 use Rattle.answer.specs.Answer.{given}
@@ -13,8 +14,8 @@ use Rattle.image.specs.Calls.{writing, write, reading, read}
 use Rattle.image.specs.Fields.{fieldsOf, threadOf}
 use Rattle.image.specs.Image.{shapeOf, bodyOf, image}
 use Rattle.image.specs.Layout.{kinds, rowOf, orderOf, startOf, bodyIn}
-use Rattle.image.specs.Opening.{recordBytes}
-use Rattle.image.specs.Types.{Kind, Hd, Th, Sr, Vr, Mm, Thread, Fields}
+use Rattle.image.specs.Opening.{recordBytes, opened, readOpening}
+use Rattle.image.specs.Types.{Kind, Hd, Th, Sr, Vr, Mm, Machine, Thread, Fields}
 
 -- every number of a list is a word, or a byte: what a lent slice of them says by its type
 abbrev pub Words : List ℕ → Type 0
@@ -53,6 +54,10 @@ abbrev pub OpensWith : Type 0
 OpensWith = (s : State) → take 60 (image s) ≡ recordBytes (s .machine)
 
 -- Both ways.
+
+-- the bytes of a well-formed machine record are read as that record
+abbrev pub RecordAgain : Type 0
+RecordAgain = (m : Machine) → wellFormed m ≡ true → readOpening (recordBytes m) ≡ opened none m
 
 -- numbers are read as an entry exactly if they are its own
 abbrev pub Exact : Type 0

@@ -86,8 +86,12 @@ recordOf r body i = headOf r i ++ body i
 unfoldable pub sectionOf : Row → (ℕ → List ℕ) → List ℕ
 sectionOf r body = joined (r .count) (recordOf r body)
 
+-- the first n kinds, and the whole image
+abbrev pub laidUpTo : ℕ → Shape → (Kind → ℕ → List ℕ) → List ℕ
+laidUpTo n s body = joined n (λ q. sectionOf (rowOf s (kindAt q)) (body (kindAt q)))
+
 unfoldable pub laidOut : Shape → (Kind → ℕ → List ℕ) → List ℕ
-laidOut s body = joined kinds (λ q. sectionOf (rowOf s (kindAt q)) (body (kindAt q)))
+laidOut s body = laidUpTo kinds s body
 
 -- Fixed places: where the q-th kind begins (at `kinds`: the whole length), and where record i and its body do.
 

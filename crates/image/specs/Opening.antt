@@ -6,8 +6,7 @@ use Rattle.answer.specs.Refusal.{Check, firstThatApplies, numbered, refusedOr}
 use Rattle.machine.specs.State.{state}
 use Rattle.machine.specs.Machine.{zeroed}
 use Rattle.image.specs.Image.{bodyOf, machineIn, recordIn}
-use Rattle.image.specs.Join.{joined}
-use Rattle.image.specs.Layout.{ofBlocks, kindAt, recordKinds, rowOf, sectionOf, headsUpTo}
+use Rattle.image.specs.Layout.{ofBlocks, recordKinds, laidUpTo, headsUpTo}
 use Rattle.image.specs.Refusal.{contentChecks}
 use Rattle.image.specs.Types.{Shape, Machine, Judgement}
 
@@ -17,7 +16,7 @@ noBlocks = ofBlocks 0
 
 -- the bytes of a machine record
 unfoldable pub recordBytes : Machine → List ℕ
-recordBytes m = joined recordKinds (λ q. sectionOf (rowOf noBlocks (kindAt q)) (bodyOf (state m [] []) (kindAt q)))
+recordBytes m = laidUpTo recordKinds noBlocks (bodyOf (state m [] []))
 
 -- what is checked of such bytes: as of the image that opens with them
 abbrev pub openingChecks : List ℕ → List Check
@@ -31,8 +30,11 @@ pub record Opening : Type 0 where
   pub number : Option ℕ
   pub machine : Machine
 
+abbrev pub opened : Option ℕ → Machine → Opening
+opened number m = record { number = number; machine = m }
+
 abbrev pub judged : Judgement → Opening
-judged r = record { number = numbered (r .verdict); machine = r .machine }
+judged r = opened (numbered (r .verdict)) (r .machine)
 
 unfoldable pub readOpening : List ℕ → Opening
-readOpening l = record { number = openingNumber l; machine = refusedOr (openingNumber l) (λ n. zeroed) (machineIn noBlocks l) }
+readOpening l = opened (openingNumber l) (refusedOr (openingNumber l) (λ n. zeroed) (machineIn noBlocks l))

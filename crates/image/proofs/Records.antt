@@ -1,0 +1,60 @@
+-- The bytes of a machine record are read as that record.
+use Prim.Native.Nat.{ℕ, zero, suc, _<_}
+use mathlib.Core.Bool.{true}
+use mathlib.Core.List.{List, []}
+use mathlib.Core.Option.{none}
+use mathlib.Core.Path.{_≡_, ap, _∙_}
+use native.Mathlib.Omega.{arith}
+use lib.ListN.{length}
+use Rattle.answer.specs.Refusal.{refusedOr}
+use Rattle.machine.specs.State.{State, state}
+use Rattle.machine.specs.Machine.{zeroed}
+use Rattle.machine.specs.WellFormed.{wellFormed}
+use Rattle.image.specs.Claims.{RecordAgain}
+use Rattle.image.specs.Image.{bodyOf, machineIn, recordIn}
+use Rattle.image.specs.Layout.{recordKinds, kindAt, rowOf, bodyIn, headsUpTo}
+use Rattle.image.specs.Opening.{noBlocks, recordBytes, opened, openingNumber, readOpening}
+use Rattle.image.specs.Refusal.{contentNumber}
+use Rattle.image.specs.Types.{Hd, Th, Machine}
+use Rattle.image.proofs.Refusals.{content-none}
+use Rattle.image.proofs.Rows.{body-length-of}
+use Rattle.image.proofs.Table.{body-up-to, heads-up-to}
+use Rattle.image.proofs.Written.{machine-held, record-held}
+
+module _ (m : Machine) (h : wellFormed m ≡ true) where
+  abbrev alone : State
+  alone = state m [] []
+
+  abbrev bytes : List ℕ
+  bytes = recordBytes m
+
+  even : (q : ℕ) → q < recordKinds → (i : ℕ) → i < rowOf noBlocks (kindAt q) .count → length (bodyOf alone (kindAt q) i) ≡ rowOf noBlocks (kindAt q) .size
+  even zero l = body-length-of alone Hd tt
+  even (suc zero) l = body-length-of alone Th tt
+  even (suc (suc q)) l = absurd (omega arith)
+
+  heads : headsUpTo recordKinds noBlocks bytes ≡ true
+  unfolding recordBytes
+  heads = heads-up-to recordKinds noBlocks (bodyOf alone) even
+
+  hd : bodyIn noBlocks bytes Hd 0 ≡ bodyOf alone Hd 0
+  unfolding recordBytes
+  hd = body-up-to recordKinds noBlocks (bodyOf alone) even 0 (omega arith) 0 (omega arith)
+
+  th : (t : ℕ) → t < 8 → bodyIn noBlocks bytes Th t ≡ bodyOf alone Th t
+  unfolding recordBytes
+  th = body-up-to recordKinds noBlocks (bodyOf alone) even 1 (omega arith)
+
+  machine : machineIn noBlocks bytes ≡ m
+  machine = machine-held noBlocks bytes m h hd th
+
+  accepted : recordIn noBlocks bytes ≡ true
+  accepted = record-held noBlocks bytes m h hd th
+
+  number : openingNumber bytes ≡ none
+  unfolding openingNumber contentNumber
+  number = content-none (headsUpTo recordKinds noBlocks bytes) (recordIn noBlocks bytes) heads accepted
+
+pub record-again : RecordAgain
+unfolding readOpening
+record-again m h = (λ i. opened (number m h i) (refusedOr (number m h i) (λ n. zeroed) (machineIn noBlocks (recordBytes m)))) ∙ ap (opened none) (machine m h)
