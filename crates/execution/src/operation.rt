@@ -99,7 +99,7 @@ fn operate(room: &mut [u32], t: usize, op: Operation, flag: bool, d: u32, a: Sou
     }
 }
 
-// The same for scalars alone, which most instructions are on: it is small enough to stand where it is called.
+// The same for scalars alone, which most instructions are on: no operand is told from a vector, and no lane is looked at.
 fn operate_scalars(room: &mut [u32], t: usize, op: Operation, d: u32, x: u32, y: u32)
     requires { ⌜ InRoom (now room) t × (d < 64) ⌝ }
     ensures { λ _. ⌜ now (room .exit) ≡ operate (now (room .entry)) t op false d (Scalar x) (Scalar y) ⌝ }

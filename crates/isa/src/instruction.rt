@@ -90,7 +90,8 @@ pub enum MemoryOp {
 }
 
 // An instruction. Its fields may hold what no word has room for. `flags` are the vector flags of d, a and b (R) or of d and a (I),
-// d highest. A signed number is held modulo 2^32.
+// d highest. A signed number is held modulo 2^32. Every field has one width, so that those of two formats don't share a place in part,
+// and the compiler keeps each in a register.
 pub enum Instruction {
     R {
         op: Operation,

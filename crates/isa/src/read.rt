@@ -25,6 +25,7 @@ fn as_r(w: u32, op: Operation) -> Reading
     let d = w / 0x40000 % 64;
     let a = w / 0x1000 % 64;
     let b = w / 0x40 % 64;
+    // Before the bit l is looked at, so that the compiler finds the flags by the opcode.
     let allowed = rule::r_allows(op, flags, d, b);
     if w / 0x10 % 2 == 1 {
         return Reading::NotFitted;

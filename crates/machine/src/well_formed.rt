@@ -15,7 +15,8 @@ use crate::status::waits_at;
 use crate::status::waits_otherwise;
 
 impl Machine {
-    // Of a thread that waits: whether all that wait with it name its count, and are fewer. One pass, at the start of a run.
+    // Of a thread that waits: whether all that wait with it name its count, and are fewer. It makes its own pass, so that `disputed`
+    // and `waiting` are called at a meeting alone and stand in its code.
     fn fewer_agree(self, thread: usize, id: u8, count: u8) -> bool
         ensures { λ r. ⌜ r ≡ (not (disputed self thread id count) && ltb (waiting self id) count) ⌝ }
     {
@@ -32,7 +33,7 @@ impl Machine {
         n < count as usize
     }
 
-    // Of a waiting thread: all that wait with it name its count, and they are fewer.
+    // The same of any thread: one that does not wait is in order.
     fn meeting_in_order(self, thread: usize, status: Status) -> bool
         ensures { λ r. ⌜ r ≡ (ifWaiting status (λ id count. not (disputed self thread id count)) && ifWaiting status (λ id count. ltb (waiting self id) count)) ⌝ }
     {
