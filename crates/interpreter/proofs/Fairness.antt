@@ -22,7 +22,7 @@ use Rattle.interpreter.specs.Demand.{Call, Session, written, Reports, is
 use Rattle.answer.specs.Refusal.{refusedOr}
 use Rattle.interpreter.specs.Run.{Outcome, number, runIssues, runReached, run}
 use Rattle.interpreter.specs.Types.{Machine, Choice, Chosen, NoneRunning}
-use Rattle.interpreter.proofs.Issuing.{chosen-thread, issued-sound, issued-well-formed}
+use Rattle.interpreter.proofs.Issuing.{chosen-thread, issued-sound, issued-well-formed, reached-nothing, reached-one-more}
 use Rattle.interpreter.proofs.RoundRobin.{distance, distance-range, distance-at, distance-of, some-counted, IssueInTurn, Row, row-after, row-front, within, share, even}
 
 -- the thread chosen is at most as far from "last" as any that is running
@@ -66,9 +66,11 @@ module _ (mask : ℕ) where
   -- the issues of one run, and a row of others behind them
   run-row : (p : List ℕ) (b : ℕ) (s : State) (rest : List Issue) → Fit mask (s .machine)
       → (Fit mask (reached p b s .machine) → Row (isEnabled mask) (reached p b s) rest) → Row (isEnabled mask) s (issues p b s ++ rest)
-  unfolding issues reached
-  run-row p zero s rest f k = k f
-  run-row p (suc b) s rest f k = go (choice (s .machine)) refl (λ t. run-row p b (issued p s t) rest) k
+  unfolding issues
+  run-row p zero s rest f k = subst (λ x. Row (isEnabled mask) x rest) (reached-nothing p s) (k (rw (reached-nothing p s) f))
+  run-row p (suc b) s rest f k =
+      go (choice (s .machine)) refl (λ t. run-row p b (issued p s t) rest)
+      (subst (λ x. Fit mask (x .machine) → Row (isEnabled mask) x rest) (reached-one-more p s b) k)
     where
       go : (c : Choice) → choice (s .machine) ≡ c
           → ((t : ℕ) → Fit mask (issued p s t .machine) → (Fit mask (reached p b (issued p s t) .machine) → Row (isEnabled mask) (reached p b (issued p s t)) rest)

@@ -14,10 +14,10 @@ use Rattle.machine.specs.Claims.{Sound}
 use Rattle.machine.specs.Scheduler.{choice, withLast}
 use Rattle.machine.specs.WellFormed.{wellFormed}
 use Rattle.interpreter.specs.Answer.{spent}
-use Rattle.interpreter.specs.Choosing.{issued, issues, reached, idleEnding, endingAt}
+use Rattle.interpreter.specs.Choosing.{ifChosen, issued, issues, reachedBy, reached, idleEnding, endingAt}
 use Rattle.interpreter.specs.Run.{accepted}
 use Rattle.interpreter.specs.Stretch.{Carried, Over}
-use Rattle.interpreter.specs.Types.{Machine, Chosen, NoneRunning}
+use Rattle.interpreter.specs.Types.{Machine, Choice, Chosen, NoneRunning}
 
 -- the thread chosen is one of the eight
 pub chosen-thread : (m : Machine) (t d : ℕ) → choice m ≡ Chosen t d → t < 8
@@ -42,12 +42,25 @@ issued-well-formed p s t d h w =
     issued-sound p s t .well-formed (machine-issues (s .machine) t (chosen-thread (s .machine) t d h) w) (chooses (s .machine) t d .0 h .running)
 
 module _ (p : List ℕ) (s : State) where
+  -- the state reached, one issue after the other
+  pub reached-nothing : reached p 0 s ≡ s
+  unfolding reached issues reachedBy
+  reached-nothing = refl
+
+  pub reached-one-more : (b : ℕ) → reached p (suc b) s ≡ ifChosen (choice (s .machine)) (λ t. reached p b (issued p s t)) s
+  unfolding reached issues reachedBy
+  reached-one-more b = go (choice (s .machine))
+    where
+      go : (c : Choice) → reachedBy p s (ifChosen c (λ t. record { before = s; thread = t } ∷ issues p b (issued p s t)) [])
+          ≡ ifChosen c (λ t. reachedBy p (issued p s t) (issues p b (issued p s t))) s
+      go (Chosen t d) = refl
+      go NoneRunning = refl
+
   -- where no thread is running, nothing is issued
   module _ (h : choice (s .machine) ≡ NoneRunning) where
     pub reached-none : (b : ℕ) → reached p b s ≡ s
-    unfolding reached
-    reached-none zero = refl
-    reached-none (suc b) = rw h
+    reached-none zero = reached-nothing
+    reached-none (suc b) = rw (reached-one-more b, h)
 
     pub issues-none : (b : ℕ) → issues p b s ≡ []
     unfolding issues
@@ -61,8 +74,7 @@ module _ (p : List ℕ) (s : State) where
   -- else the thread chosen is, if anything is left of the budget
   module _ (t d : ℕ) (h : choice (s .machine) ≡ Chosen t d) where
     pub reached-step : (b : ℕ) → reached p (suc b) s ≡ reached p b (issued p s t)
-    unfolding reached
-    reached-step b = rw h
+    reached-step b = rw (reached-one-more b, h)
 
     pub issues-step : (b : ℕ) → issues p (suc b) s ≡ record { before = s; thread = t } ∷ issues p b (issued p s t)
     unfolding issues
@@ -113,5 +125,5 @@ over-idle p left s h = record { stays = reached-none p s h left; none = issues-n
 
 -- a thread is running, and nothing is left of the budget
 pub over-spent : (p : List ℕ) (left : ℕ) (s : State) (t d : ℕ) → choice (s .machine) ≡ Chosen t d → left ≡ 0 → Over p left s true
-unfolding reached issues
-over-spent p left s t d h e = record { stays = rw e; none = rw e; ending = ending-some p s t d h }
+unfolding issues
+over-spent p left s t d h e = record { stays = rw e (reached-nothing p s); none = rw e; ending = ending-some p s t d h }

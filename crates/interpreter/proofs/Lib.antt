@@ -5,6 +5,7 @@ pub mod Issuing
 pub mod RoundRobin
 pub mod Fairness
 pub mod Runs
+pub mod Endings
 pub mod Starts
 pub mod Figures
 pub mod Claims

@@ -17,7 +17,7 @@ use Rattle.interpreter.specs.Claims.{StaysWellFormed, MaskStays, Lengths
 use Rattle.answer.specs.Refusal.{refusedOr}
 use Rattle.interpreter.specs.Run.{number, runIssues, runReached, runAnswer}
 use Rattle.interpreter.specs.Types.{Choice, Chosen, NoneRunning}
-use Rattle.interpreter.proofs.Issuing.{issued-sound, issued-well-formed, reached-none, issues-none, ending-none}
+use Rattle.interpreter.proofs.Issuing.{issued-sound, issued-well-formed, reached-nothing, reached-one-more, reached-none, issues-none, ending-none}
 use Rattle.interpreter.proofs.Refusals.{run-taken, taken-run}
 
 -- what each issue of the thread chosen keeps, a run keeps
@@ -26,9 +26,9 @@ Kept P p = (s : State) (t d : ℕ) → choice (s .machine) ≡ Chosen t d → P 
 
 module _ (P : State → Type 0) (p : List ℕ) (each : Kept P p) where
   reached-keeps : (b : ℕ) (s : State) → P s → P (reached p b s)
-  unfolding reached Kept
-  reached-keeps zero s h = h
-  reached-keeps (suc b) s h = go (choice (s .machine)) refl (λ t. reached-keeps b (issued p s t))
+  unfolding Kept
+  reached-keeps zero s h = rw (reached-nothing p s) h
+  reached-keeps (suc b) s h = rw (reached-one-more p s b) (go (choice (s .machine)) refl (λ t. reached-keeps b (issued p s t)))
     where
       go : (c : Choice) → choice (s .machine) ≡ c → ((t : ℕ) → P (issued p s t) → P (reached p b (issued p s t)))
           → P (ifChosen c (λ t. reached p b (issued p s t)) s)
@@ -94,9 +94,10 @@ module _ (p : List ℕ) where
       go NoneRunning more = omega arith
 
   spent-whole : (b : ℕ) (s : State) → endingAt (reached p b s) ≡ spent → length (issues p b s) ≡ b
-  unfolding issues reached
+  unfolding issues
   spent-whole zero s h = refl
-  spent-whole (suc b) s h = go (choice (s .machine)) refl h (λ t. spent-whole b (issued p s t))
+  spent-whole (suc b) s h =
+      go (choice (s .machine)) refl (sym (ap endingAt (reached-one-more p s b)) ∙ h) (λ t. spent-whole b (issued p s t))
     where
       go : (c : Choice) → choice (s .machine) ≡ c → endingAt (ifChosen c (λ t. reached p b (issued p s t)) s) ≡ spent
           → ((t : ℕ) → endingAt (reached p b (issued p s t)) ≡ spent → length (issues p b (issued p s t)) ≡ b)
@@ -125,11 +126,10 @@ spends-budget p b s h = go (number p s) h
 
 module _ (p : List ℕ) (m : ℕ) where
   reached-add : (n : ℕ) (s : State) → reached p (n + m) s ≡ reached p m (reached p n s)
-  unfolding reached
-  reached-add zero s = let e : 0 + m ≡ m = omega arith in rw e
+  reached-add zero s = let e : 0 + m ≡ m = omega arith in rw (e, reached-nothing p s)
   reached-add (suc n) s =
       let e : suc n + m ≡ suc (n + m) = omega arith in
-      rw e (go (choice (s .machine)) refl (λ t. reached-add n (issued p s t)))
+      rw (e, reached-one-more p s (n + m), reached-one-more p s n) (go (choice (s .machine)) refl (λ t. reached-add n (issued p s t)))
     where
       go : (c : Choice) → choice (s .machine) ≡ c → ((t : ℕ) → reached p (n + m) (issued p s t) ≡ reached p m (reached p n (issued p s t)))
           → ifChosen c (λ t. reached p (n + m) (issued p s t)) s ≡ reached p m (ifChosen c (λ t. reached p n (issued p s t)) s)
@@ -137,11 +137,11 @@ module _ (p : List ℕ) (m : ℕ) where
       go NoneRunning e more = sym (reached-none p s e m)
 
   issues-add : (n : ℕ) (s : State) → issues p (n + m) s ≡ issues p n s ++ issues p m (reached p n s)
-  unfolding issues reached
-  issues-add zero s = let e : 0 + m ≡ m = omega arith in rw e
+  unfolding issues
+  issues-add zero s = let e : 0 + m ≡ m = omega arith in rw (e, reached-nothing p s)
   issues-add (suc n) s =
       let e : suc n + m ≡ suc (n + m) = omega arith in
-      rw e (go (choice (s .machine)) refl (λ t. issues-add n (issued p s t)))
+      rw (e, reached-one-more p s n) (go (choice (s .machine)) refl (λ t. issues-add n (issued p s t)))
     where
       go : (c : Choice) → choice (s .machine) ≡ c
           → ((t : ℕ) → issues p (n + m) (issued p s t) ≡ issues p n (issued p s t) ++ issues p m (reached p n (issued p s t)))

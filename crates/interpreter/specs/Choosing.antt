@@ -28,10 +28,14 @@ unfoldable pub issues : List ℕ → ℕ → State → List Issue
 issues p zero s = []
 issues p (suc left) s = ifChosen (choice (s .machine)) (λ t. record { before = s; thread = t } ∷ issues p left (issued p s t)) []
 
+-- "the machine it hands back or leaves is the one these issues reach": where issues that were written down lead, from s if there are none
+unfoldable pub reachedBy : List ℕ → State → List Issue → State
+reachedBy p s [] = s
+reachedBy p s (i ∷ is) = reachedBy p (issued p (i .before) (i .thread)) is
+
 -- "the state reached"
 unfoldable pub reached : List ℕ → ℕ → State → State
-reached p zero s = s
-reached p (suc left) s = ifChosen (choice (s .machine)) (λ t. reached p left (issued p s t)) s
+reached p left s = reachedBy p s (issues p left s)
 
 -- "if no thread is running, the run answers stuck if one waits, else stopped."
 unfoldable pub idleEnding : Machine → Ending

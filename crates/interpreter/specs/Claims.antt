@@ -1,16 +1,19 @@
 -- What is proved of the definitions, for other crates to cite.
 use Prim.Native.Nat.{ℕ, _+_, _<_, _≤_}
-use mathlib.Core.Bool.{true}
+use mathlib.Core.Bool.{Bool, true, false}
 use mathlib.Core.List.{List, _++_}
+use mathlib.Core.Logic.{_↔_}
+use mathlib.Core.Option.{none}
 use mathlib.Core.Path.{_≡_}
 use lib.ListN.{length, getD}
-use Rattle.answer.specs.Answer.{given}
+use Rattle.answer.specs.Answer.{Answer, given}
 use Rattle.answer.specs.Refusal.{roomWords}
 use Rattle.machine.specs.State.{State}
+use Rattle.machine.specs.Scheduler.{runs, waits}
 use Rattle.machine.specs.WellFormed.{wellFormed}
-use Rattle.interpreter.specs.Answer.{spent}
+use Rattle.interpreter.specs.Answer.{Ending, stopped, stuck, spent}
 use Rattle.interpreter.specs.Demand.{enabledThreads}
-use Rattle.interpreter.specs.Run.{runIssues, runReached, runAnswer}
+use Rattle.interpreter.specs.Run.{number, runIssues, runReached, runAnswer}
 use Rattle.machine.specs.State.{scalarPlace}
 use Rattle.interpreter.specs.Start.{start}
 use Rattle.interpreter.specs.Types.{Machine}
@@ -56,6 +59,24 @@ WithinBudget = (p : List ℕ) (b : ℕ) (s : State) → length (runIssues p b s)
 
 abbrev pub SpendsBudget : Type 0
 SpendsBudget = (p : List ℕ) (b : ℕ) (s : State) → runAnswer p b s ≡ given spent → length (runIssues p b s) ≡ b
+
+-- no thread of a record passes a test, or one does
+abbrev pub NoThread : (ℕ → Bool) → Type 0
+NoThread test = (t : ℕ) → t < 8 → test t ≡ false
+
+abbrev pub SomeThread : (ℕ → Bool) → Type 0
+SomeThread test = (t : ℕ) × (t < 8) × (test t ≡ true)
+
+-- what a run answers that reaches a record, by who runs and who waits there
+pub record EndsBy (m : Machine) (answer : Answer Ending) : Type 0 where
+  -- "if no thread is running, the run answers stuck if one waits, else stopped."
+  pub stuck-exactly : (answer ≡ given stuck) ↔ (NoThread (runs m) × SomeThread (waits m))
+  pub stopped-exactly : (answer ≡ given stopped) ↔ (NoThread (runs m) × NoThread (waits m))
+  -- "Otherwise, if the issues made equal the budget, it answers spent."
+  pub spent-exactly : (answer ≡ given spent) ↔ SomeThread (runs m)
+
+abbrev pub EndsByRecord : Type 0
+EndsByRecord = (p : List ℕ) (b : ℕ) (s : State) → number p s ≡ none → EndsBy (runReached p b s .machine) (runAnswer p b s)
 
 -- two runs of a program, one after the other with budgets n and m, are one with the budget n + m
 pub record Joined (p : List ℕ) (n m : ℕ) (s : State) : Type 0 where

@@ -12,7 +12,7 @@ pub use Rattle.machine.specs.declared.scheduler.Choice.the-variants.{Chosen, No
 pub use Rattle.isa.specs.declared.instruction.BinaryOp.the-variants.{Add, Mullo, Mulhi, Mulhu, Ashr}
 pub use Rattle.isa.specs.declared.instruction.UnaryOp.the-variants.{Clz}
 pub use Rattle.isa.specs.declared.instruction.CompareOp.the-variants.{Lt, Ult}
-pub use Rattle.isa.specs.declared.instruction.Operation.the-variants.{Binary, Compare}
+pub use Rattle.isa.specs.declared.instruction.Operation.the-variants.{Binary, Unary, Compare}
 pub use Rattle.isa.specs.declared.instruction.MoveiOp.the-variants.{Whole}
 pub use Rattle.isa.specs.declared.instruction.LoadOp.the-variants.{Load32}
 pub use Rattle.isa.specs.declared.instruction.MemoryOp.the-variants.{Load}

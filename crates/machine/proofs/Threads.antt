@@ -9,7 +9,7 @@ use borrow.Author.Tests.{not-true, not-false}
 use Rattle.machine.specs.Machine.{threadNumbers, allThreads, anyThread, countThreads}
 use Rattle.machine.specs.Search.{all, any, count}
 use Rattle.machine.proofs.Loops.{from}
-use Rattle.machine.proofs.Tests.{both}
+use Rattle.machine.proofs.Tests.{never, both}
 
 module _ (p : ℕ → Bool) where
   all-from : (k n : ℕ) → all p (from k n) ≡ true → (j : ℕ) → k ≤ j → j < k + n → p j ≡ true
@@ -56,6 +56,21 @@ module _ (p : ℕ → Bool) where
   pub no-thread : ((t : ℕ) → t < 8 → p t ≡ false) → anyThread p ≡ false
   unfolding anyThread allThreads
   no-thread h = any-all threadNumbers ∙ ap not (all-threads (λ u. not (p u)) (λ t l. ap not (h t l)))
+
+  any-from : (k n : ℕ) → any p (from k n) ≡ true → (j : ℕ) × (j < k + n) × (p j ≡ true)
+  unfolding any from
+  any-from k zero h = never h refl
+  any-from k (suc n) h = go (p k) refl h (any-from (suc k) n)
+    where
+      go : (b : Bool) → p k ≡ b → (b || any p (from (suc k) n)) ≡ true
+          → (any p (from (suc k) n) ≡ true → (j : ℕ) × (j < suc k + n) × (p j ≡ true)) → (j : ℕ) × (j < k + suc n) × (p j ≡ true)
+      go true e l rest = (k, omega arith, e)
+      go false e l rest = let r = rest l in (r .0, omega (arith, r .1), r .2)
+
+  -- one thread passes
+  pub some-thread : anyThread p ≡ true → (t : ℕ) × (t < 8) × (p t ≡ true)
+  unfolding anyThread from
+  some-thread h = any-from 0 8 h
 
   count-from : (k n : ℕ) → 0 < count p (from k n) → (j : ℕ) × (j < k + n) × (p j ≡ true)
   unfolding count from

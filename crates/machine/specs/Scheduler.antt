@@ -40,6 +40,9 @@ issued m NoneRunning = m
 unfoldable pub choose : Machine → Turn
 choose m = record { choice = choice m; machine = issued m (choice m) }
 
+abbrev pub waits : Machine → ℕ → Bool
+waits m t = isWaiting (statusAt m t)
+
 -- "if no thread is running, the run answers stuck if one waits, else stopped"
 unfoldable pub someWaits : Machine → Bool
-someWaits m = anyThread (λ t. isWaiting (statusAt m t))
+someWaits m = anyThread (waits m)
