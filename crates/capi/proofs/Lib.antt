@@ -1,3 +1,4 @@
 -- The laws that several proofs cite.
 mod Handed
 mod Verdicts
+pub mod Demand

@@ -3,3 +3,4 @@ pub mod Answer
 pub mod Refusal
 pub mod Runs
 pub mod Images
+pub mod Demand

@@ -9,7 +9,6 @@ use Rattle.machine.proofs.Claims.{chooses, chooses-none}
 use Rattle.machine.proofs.Tests.{never}
 use Rattle.machine.proofs.Threads.{none-at, some-thread}
 use Rattle.machine.specs.Scheduler.{runs, waits, choice, someWaits}
-use Rattle.machine.specs.State.{State}
 use Rattle.interpreter.proofs.Issuing.{chosen-thread}
 use Rattle.interpreter.specs.Answer.{Ending, stopped, stuck, spent}
 use Rattle.interpreter.specs.Choosing.{ifChosen, reached, idleEnding, endingAt}
