@@ -8,5 +8,7 @@ pub mod Answers
 pub mod Signed
 pub mod Formats
 pub mod RoundTrip
+pub mod Cases
 pub mod Ranges
+pub mod Fitted
 pub mod Sets

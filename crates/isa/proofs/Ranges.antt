@@ -1,37 +1,63 @@
 -- What a word has room for: the registers and the immediate of an instruction that was read.
-use Prim.Native.Nat.{ℕ, _^_}
-use mathlib.Core.List.{[], _∷_}
-use mathlib.Core.Path.{_≡_}
-use borrow.Author.Tests.{ltb-true}
-use Rattle.isa.proofs.Answers.{fits}
-use Rattle.isa.proofs.RoundTrip.{exact}
-use Rattle.answer.specs.Answer.{given}
-use Rattle.isa.specs.Claims.{Exact, Ranged, InRange}
-use Rattle.isa.specs.Layout.{layoutR, layoutI, layoutMovei, layoutJ, layoutC, layoutM, cut}
-use Rattle.isa.specs.Table.{rowR, rowI, rowMovei, rowJ, rowC, rowM}
-use Rattle.isa.specs.Types.{Instruction, R, I, Movei, J, C, M}
-use Rattle.isa.specs.Write.{write}
+use Prim.Native.Nat.{ℕ}
+use mathlib.Core.Bool.{Bool}
+use native.Mathlib.Omega.{arith}
+use lib.Dec.{eqb}
+use Rattle.isa.proofs.Cases.{by-test, by-accepted, by-listed}
+use Rattle.answer.specs.Answer.{Answer, given, refused}
+use Rattle.isa.specs.Claims.{Ranged, InRange}
+use Rattle.isa.specs.Layout.{bits}
+use Rattle.isa.specs.Read.{accepted, read, readR, readI, readMovei, readJ, readC, readM, asR, asI, asMovei, asJ, asC, asM}
+use Rattle.isa.specs.Types.{Operation, MoveiOp, JumpOp, ControlOp, MemoryOp, Instruction}
 
-written-ranged : (i : Instruction) (w : ℕ) → write i ≡ given w → Ranged i
-unfolding write
-written-ranged (R op flags d a b) w e =
-    let h = fits layoutR (0b00 ∷ rowR op .opcode ∷ d ∷ a ∷ b ∷ 0 ∷ 0 ∷ flags ∷ 0 ∷ []) _ w e .1 .1 in
-    (ltb-true d 64 (h .0), ltb-true a 64 (h .1 .0), ltb-true b 64 (h .1 .1 .0))
-written-ranged (I op flags d a immediate) w e =
-    let h = fits layoutI (0b010 ∷ rowI op .opcode ∷ d ∷ a ∷ cut (2 ^ 8) immediate ∷ flags ∷ 0 ∷ []) _ w e .1 .1 in
-    (ltb-true d 64 (h .0), ltb-true a 64 (h .1 .0))
-written-ranged (Movei op flag d immediate) w e =
-    let h = fits layoutMovei (0b01100 ∷ rowMovei op .opcode ∷ d ∷ immediate ∷ flag ∷ 0 ∷ []) _ w e .1 .1 in
-    (ltb-true d 64 (h .0), ltb-true immediate (2 ^ 16) (h .1 .0))
-written-ranged (J op register offset) w e =
-    ltb-true register 64 (fits layoutJ (0b01110 ∷ rowJ op .opcode ∷ register ∷ cut (2 ^ 17) offset ∷ []) _ w e .1 .1 .0)
-written-ranged (C op first second) w e =
-    let h = fits layoutC (0b01111 ∷ rowC op .opcode ∷ first ∷ second ∷ 0 ∷ []) _ w e .1 .1 in
-    (ltb-true first 64 (h .0), ltb-true second 64 (h .1 .0))
-written-ranged (M op register base offset) w e =
-    let h = fits layoutM (0b10 ∷ rowM op .opcode ∷ register ∷ base ∷ cut (2 ^ 8) offset ∷ 0 ∷ 0 ∷ []) _ w e .1 .1 in
-    (ltb-true register 64 (h .0), ltb-true base 64 (h .1 .0))
+-- what an answer gives is in range
+Sound : Answer Instruction → Type 0
+Sound (given i) = Ranged i
+Sound (refused number) = Unit {0}
+
+none : (n : ℕ) → Sound (refused n)
+unfolding Sound
+none n = tt
+
+took : (t : Bool) (i : Instruction) → Ranged i → Sound (accepted t i)
+unfolding Sound
+took t i r = by-accepted Sound t r tt
+
+-- the fields of a word are, by format
+r : (w : ℕ) (op : Operation) → Sound (asR w op)
+unfolding asR
+r w op = by-test Sound (eqb (bits w 4 4) 1) (none 8) (took _ _ (omega arith))
+
+i : (w : ℕ) (op : Operation) → Sound (asI w op)
+unfolding asI
+i w op = took _ _ (omega arith)
+
+movei : (w : ℕ) (op : MoveiOp) → Sound (asMovei w op)
+unfolding asMovei
+movei w op = took _ _ (omega arith)
+
+j : (w : ℕ) (op : JumpOp) → Sound (asJ w op)
+unfolding asJ
+j w op = took _ _ (omega arith)
+
+c : (w : ℕ) (op : ControlOp) → Sound (asC w op)
+unfolding asC
+c w op = took _ _ (omega arith)
+
+m : (w : ℕ) (op : MemoryOp) → Sound (asM w op)
+unfolding asM
+m w op = by-test Sound (eqb (bits w 2 1) 0) (took _ _ (omega arith)) (none 8)
+
+sound : (w : ℕ) → Sound (read w)
+unfolding read readR readI readMovei readJ readC readM
+sound w =
+    by-test Sound (eqb (bits w 31 30) 0b00) (by-listed Sound _ (r w) (none _))
+    (by-test Sound (eqb (bits w 31 29) 0b010) (by-listed Sound _ (i w) (none _))
+    (by-test Sound (eqb (bits w 31 27) 0b01100) (by-listed Sound _ (movei w) (none _))
+    (by-test Sound (eqb (bits w 31 27) 0b01110) (by-listed Sound _ (j w) (none _))
+    (by-test Sound (eqb (bits w 31 27) 0b01111) (by-listed Sound _ (c w) (none _))
+    (by-test Sound (eqb (bits w 31 30) 0b10) (by-listed Sound _ (m w) (none _)) (none _))))))
 
 pub in-range : InRange
-unfolding InRange Exact
-in-range w i b e = written-ranged i w (exact w i b .0 e)
+unfolding InRange Sound
+in-range w i e = rw e at (sound w)

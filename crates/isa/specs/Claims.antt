@@ -1,10 +1,14 @@
--- What is proved of the definitions: that reading and writing belong together, and what a word has room for.
+-- What is proved of the definitions: that reading and writing belong together, what a word has room for, and which words are not fitted.
 use Prim.Native.Nat.{ℕ, _<_, _^_}
+use mathlib.Core.Bool.{Bool, true, _&&_, _||_}
+use mathlib.Core.List.{List, [], _∷_}
 use mathlib.Core.Path.{_≡_}
 use mathlib.Core.Logic.{_↔_}
-use Rattle.answer.specs.Answer.{given}
+use lib.Dec.{eqb, leb}
+use Rattle.answer.specs.Answer.{Answer, given, refused}
+use Rattle.isa.specs.Layout.{bits}
 use Rattle.isa.specs.Read.{read}
-use Rattle.isa.specs.Types.{Instruction, R, I, Movei, J, C, M}
+use Rattle.isa.specs.Types.{Instruction, R, I, Movei, J, C, M, Binary, Add}
 use Rattle.isa.specs.Write.{write}
 
 -- "Words read into instructions and instructions written into words follow the same tables, with no other word accepted."
@@ -27,4 +31,65 @@ Ranged (M op register base offset) = (register < 64) × (base < 64)
 
 -- That holds of every instruction that a word is read as.
 unfoldable pub InRange : Type 0
-InRange = (w : ℕ) (i : Instruction) → w < 2 ^ 32 → read w ≡ given i → Ranged i
+InRange = (w : ℕ) (i : Instruction) → read w ≡ given i → Ranged i
+
+-- Words that are not fitted (number 8), by their bits alone.
+
+abbrev pub between : ℕ → ℕ → ℕ → Bool
+between low high n = leb low n && leb n high
+
+-- the opcodes that the lines of R name: 1-11, 12 and 13, 14-23, 24, 25, 32, 43, 44
+abbrev pub namedR : ℕ → Bool
+namedR o = between 1 25 o || eqb o 32 || eqb o 43 || eqb o 44
+
+-- "Not fitted: opcodes 33-42, 45, 48, 49 with any other bits; any opcode above with l = 1, other bits any."
+abbrev pub notFittedR : ℕ → ℕ → Bool
+notFittedR opcode l = (between 33 42 opcode || eqb opcode 45 || eqb opcode 48 || eqb opcode 49) || (namedR opcode && eqb l 1)
+
+-- "0 load8, 1 load16 .., 2 load32, 4 load8u, 5 load16u, 8 loadv, 32 store8, 33 store16, 34 store32, 40 storev."
+abbrev pub namedM : ℕ → Bool
+namedM o = between 0 2 o || eqb o 4 || eqb o 5 || eqb o 8 || between 32 34 o || eqb o 40
+
+-- "Bit 2 or 1 set with such an opcode, other bits any: not fitted."
+abbrev pub notFittedM : ℕ → ℕ → ℕ → Bool
+notFittedM opcode bit2 bit1 = namedM opcode && (eqb bit2 1 || eqb bit1 1)
+
+-- R has bits 31-30 = 00, M has 10; both have the opcode in bits 29-24.
+abbrev pub notFitted : ℕ → Bool
+notFitted w =
+    (eqb (bits w 31 30) 0b00 && notFittedR (bits w 29 24) (bits w 4 4))
+    || (eqb (bits w 31 30) 0b10 && notFittedM (bits w 29 24) (bits w 2 2) (bits w 1 1))
+
+-- Those words are not fitted, and no others.
+unfoldable pub NotFittedExactly : Type 0
+NotFittedExactly = (w : ℕ) → (read w ≡ refused 8) ↔ (notFitted w ≡ true)
+
+-- Words beside these lines, and what they are read as.
+pub record Row : Type 0 where
+  pub word : ℕ
+  pub answer : Answer Instruction
+
+abbrev row : ℕ → Answer Instruction → Row
+row word answer = record { word = word; answer = answer }
+
+abbrev pub rows : List Row
+rows =
+    -- add and sext8 with l = 1; add also to s63, with bits 5 and 0 set
+    row 0x04000010 (refused 8) ∷ row 0x2B000010 (refused 8) ∷ row 0x04FC0031 (refused 8) ∷
+    -- opcodes 26, 0 and 46, which no line names, with l = 1
+    row 0x1A000010 (refused 7) ∷ row 0x00000010 (refused 7) ∷ row 0x2E000010 (refused 7) ∷
+    -- opcodes 42, 45 and 49, with other bits
+    row 0x2A000000 (refused 8) ∷ row 0x2DFFFFFF (refused 8) ∷ row 0x31000001 (refused 8) ∷
+    -- addi with bit 4 set: part of its immediate
+    row 0x44000010 (given (I (Binary Add) 0b00 0 0 2)) ∷
+    -- load32 with bit 2, bit 1, and with all of bits 2 to 0 into s63
+    row 0x82000004 (refused 8) ∷ row 0x82000002 (refused 8) ∷ row 0x82FC0007 (refused 8) ∷
+    -- bit 0 alone; and bit 2 with opcode 3, which M does not name
+    row 0x82000001 (refused 7) ∷ row 0x83000004 (refused 7) ∷ []
+
+abbrev pub All : List Row → Type 0
+All [] = Unit {0}
+All (r ∷ rs) = (read (r .word) ≡ r .answer) × All rs
+
+unfoldable pub RowsHold : Type 0
+RowsHold = All rows

@@ -15,7 +15,7 @@ word-spec =
     (tie.spec
     (λ c κs. search needs)
     (λ c. search needs)
-    (λ c κs. (search needs, search needs, search needs, in-range _ _ (search needs) (sym (c .before .before .before .before .before .read-word .ensures) ∙ ap reading (c .before .before .before .i .given .1))))
+    (λ c κs. (search needs, search needs, search needs, in-range _ _ (sym (c .before .before .before .before .before .read-word .ensures) ∙ ap reading (c .before .before .before .i .given .1))))
     (λ c. search needs)
     (λ c. search needs)
     (λ c. search needs)
