@@ -9,9 +9,23 @@ use borrow.Author.Tests.{le-leb, lt-ltb, eq-eqb}
 use Rattle.machine.proofs.Claims.{traps, ends, meets}
 use Rattle.machine.specs.Barrier.{meet}
 use Rattle.machine.specs.Claims.{Sound}
+use Rattle.machine.specs.Machine.{trap}
+use Rattle.machine.proofs.Tests.{never}
+use Rattle.execution.specs.Effect.{Executed}
 use Rattle.execution.proofs.Effects.{Reasoned, executes-word}
-use Rattle.execution.specs.Claims.{Performs, Lengths, Issues}
-use Rattle.execution.specs.Issue.{executeWord, afterMeeting, settle, settled, perform, issue}
+use Rattle.execution.specs.Claims.{Performs, Lengths, Issues, Untouched}
+use Rattle.execution.specs.Issue.{
+  executeWord,
+  afterMeeting,
+  settle,
+  settled,
+  setsStatus,
+  fits,
+  perform,
+  performSetsStatus,
+  issue,
+  issueSetsStatus,
+}
 use Rattle.execution.specs.Jump.{inProgram}
 use Rattle.execution.specs.Registers.{programCounter}
 use Rattle.machine.specs.State.{State, state}
@@ -62,3 +76,26 @@ lengths = record { of-registers = λ p s t. lawful p s t .registers; of-memory =
 pub issues : Issues
 unfolding issue
 issues p s t a b c = rw (le-leb _ _ a, eq-eqb _ _ b, lt-ltb _ _ c)
+
+settle-untouched : (s : State) (t pc : ℕ) (room memory : List ℕ) (e : Effect) → setsStatus e ≡ false →
+    settle (s .machine) t pc room memory e .machine ≡ s .machine
+settle-untouched s t pc room memory Stays h = refl
+settle-untouched s t pc room memory (Traps reason) h = never refl h
+settle-untouched s t pc room memory Ends h = never refl h
+settle-untouched s t pc room memory (Meets id second) h = never refl h
+
+pub untouched : Untouched
+unfolding issue issueSetsStatus perform performSetsStatus
+untouched p s t h = go (fits (length p) (length (s .registers)) t) (inProgram (length p) (programCounter (s .registers) t)) h
+  where
+    pc : ℕ
+    pc = programCounter (s .registers) t
+
+    x : Executed
+    x = executeWord (length p) (s .machine .enabled) t (s .registers) (s .memory) pc (getD p (pc / 4) 0)
+
+    go : (f i : Bool) → cond f (cond i (setsStatus (x .effect)) true) false ≡ false →
+        cond f (cond i (settled (s .machine) t pc x) (state (trap (s .machine) t 4) (s .registers) (s .memory))) s .machine ≡ s .machine
+    go true true k = settle-untouched s t pc (x .registers) (x .memory) (x .effect) k
+    go true false k = never refl k
+    go false i k = refl

@@ -1,6 +1,7 @@
 -- Laws that several proofs cite, and the proofs of the claims.
 pub mod Targets
 pub mod Fitting
+pub mod Issues
 pub mod Lengths
 pub mod Effects
 pub mod Claims

@@ -1,12 +1,13 @@
 -- What is proved of one issue, for other crates to cite.
 use Prim.Native.Nat.{ℕ, _≤_, _<_}
+use mathlib.Core.Bool.{false}
 use mathlib.Core.Path.{_≡_}
 use mathlib.Core.List.{List}
 use lib.ListN.{length}
 use Rattle.answer.specs.Refusal.{programWords, roomWords}
 use Rattle.machine.specs.Claims.{Sound}
 use Rattle.machine.specs.State.{State}
-use Rattle.execution.specs.Issue.{perform, issue}
+use Rattle.execution.specs.Issue.{perform, issue, issueSetsStatus}
 
 -- what an issue makes of the record
 abbrev pub Performs : Type 0
@@ -20,3 +21,7 @@ pub record Lengths : Type 0 where
 -- the total form is the rules' own in a room of the right size, for one of the eight threads
 abbrev pub Issues : Type 0
 Issues = (p : List ℕ) (s : State) (t : ℕ) → length p ≤ programWords → length (s .registers) ≡ roomWords → t < 8 → issue p s t ≡ perform p s t
+
+-- an issue that sets no status leaves the record
+abbrev pub Untouched : Type 0
+Untouched = (p : List ℕ) (s : State) (t : ℕ) → issueSetsStatus p s t ≡ false → issue p s t .machine ≡ s .machine

@@ -1,7 +1,8 @@
 -- One issue of a thread (document 01, "One issue").
 use Prim.Native.Nat.{ℕ, _/_}
-use mathlib.Core.Bool.{Bool, _&&_, cond}
+use mathlib.Core.Bool.{Bool, true, false, _&&_, cond}
 use mathlib.Core.List.{List}
+use mathlib.Core.Path.{_≡_}
 use lib.Dec.{leb, ltb, eqb}
 use lib.ListN.{length, getD}
 use Rattle.answer.specs.Answer.{Answer, given, refused, undefined}
@@ -17,7 +18,7 @@ use Rattle.execution.specs.Operation.{operateR, operateI}
 use Rattle.execution.specs.Registers.{programCounter}
 use Rattle.answer.specs.Refusal.{programWords, roomWords}
 use Rattle.machine.specs.State.{State, state}
-use Rattle.execution.specs.Types.{Instruction, R, I, Movei, J, C, M, Effect, Stays, Traps, Ends, Meets, Machine, Meeting}
+use Rattle.execution.specs.Types.{Instruction, R, I, Movei, J, C, M, Effect, Stays, Traps, Ends, Meets, Issued, Machine, Meeting}
 
 -- what an instruction at address pc does, in a program of so many words
 abbrev pub execute : ℕ → ℕ → ℕ → List ℕ → List ℕ → ℕ → Instruction → Executed
@@ -54,6 +55,18 @@ settle m t pc room memory (Meets id second) = state (meet m t id second .machine
 abbrev pub settled : Machine → ℕ → ℕ → Executed → State
 settled m t pc x = settle m t pc (x .registers) (x .memory) (x .effect)
 
+-- whether a status in it is set: by a trap, an end or a barrier
+abbrev pub setsStatus : Effect → Bool
+setsStatus Stays = false
+setsStatus (Traps reason) = true
+setsStatus Ends = true
+setsStatus (Meets id second) = true
+
+-- both as the code hands them back, whatever data memory holds
+pub record Settles (m : Machine) (t pc : ℕ) (room : List ℕ) (e : Effect) (r : Issued) (after : List ℕ) : Type 0 where
+  pub left : (memory : List ℕ) → state (r .machine) after memory ≡ settle m t pc room memory e
+  pub told : r .changed ≡ setsStatus e
+
 -- "The word is at the thread's s63. Checks, in order: s63 not a multiple of 4, or at or past the program's end (reason 4); .."
 abbrev pub performAt : List ℕ → State → ℕ → ℕ → State
 performAt p s t pc =
@@ -65,6 +78,16 @@ performAt p s t pc =
 unfoldable pub perform : List ℕ → State → ℕ → State
 perform p s t = performAt p s t (programCounter (s .registers) t)
 
+-- whether it sets a status
+abbrev pub performSetsStatusAt : List ℕ → State → ℕ → ℕ → Bool
+performSetsStatusAt p s t pc =
+    cond (inProgram (length p) pc)
+    (setsStatus (executeWord (length p) (s .machine .enabled) t (s .registers) (s .memory) pc (getD p (pc / 4) 0) .effect))
+    true
+
+unfoldable pub performSetsStatus : List ℕ → State → ℕ → Bool
+performSetsStatus p s t = performSetsStatusAt p s t (programCounter (s .registers) t)
+
 -- whether the lengths and the thread are such as a run that is not refused comes to
 abbrev pub fits : ℕ → ℕ → ℕ → Bool
 fits words room t = leb words programWords && eqb room roomWords && ltb t 8
@@ -72,3 +95,6 @@ fits words room t = leb words programWords && eqb room roomWords && ltb t 8
 -- the same for any lengths and any thread number: elsewhere nothing changes
 unfoldable pub issue : List ℕ → State → ℕ → State
 issue p s t = cond (fits (length p) (length (s .registers)) t) (perform p s t) s
+
+unfoldable pub issueSetsStatus : List ℕ → State → ℕ → Bool
+issueSetsStatus p s t = cond (fits (length p) (length (s .registers)) t) (performSetsStatus p s t) false

@@ -3,6 +3,7 @@ pub use Rattle.execution.specs.declared.operand.Source.{Source}
 pub use Rattle.execution.specs.declared.operand.Source.the-variants.{Scalar, Vector}
 pub use Rattle.execution.specs.declared.effect.Effect.{Effect}
 pub use Rattle.execution.specs.declared.effect.Effect.the-variants.{Stays, Traps, Ends, Meets}
+pub use Rattle.execution.specs.declared.issuing.Issued.{Issued}
 pub use Rattle.execution.specs.declared.control.ControlValue.{ControlValue}
 pub use Rattle.execution.specs.declared.control.ControlValue.the-variants.{Known, Unknown}
 pub use Rattle.isa.specs.declared.instruction.BinaryOp.{BinaryOp}

@@ -1,11 +1,10 @@
 // One issue of a thread.
-ghost use mathlib.Core.Bool.{false};
 ghost use mathlib.Core.Path.{_≡_};
 ghost use Prim.Native.Nat.{_≤_, _<_};
 ghost use lib.ListN.{length};
 ghost use Rattle.answer.specs.Refusal.{programWords};
 ghost use Rattle.machine.specs.Barrier.{meet};
-ghost use Rattle.execution.specs.Issue.{afterMeeting, fits, perform, issue};
+ghost use Rattle.execution.specs.Issue.{afterMeeting, fits, perform, performSetsStatus, issue, issueSetsStatus, Settles};
 ghost use Rattle.execution.specs.Registers.{InRoom};
 ghost use Rattle.machine.specs.State.{state};
 use crate::effect::Effect;
@@ -24,7 +23,10 @@ fn fits(words: usize, room: usize, thread: usize) -> bool
 // The thread at a barrier: s63 moves on unless it traps.
 fn meet(registers: &mut [u32], machine: Machine, t: usize, pc: u32, id: u32, second: u32) -> Machine
     requires { ⌜ InRoom (now registers) t × (pc < 65536) ⌝ }
-    ensures { λ r. ⌜ (r ≡ meet machine t id second .machine) × (now (registers .exit) ≡ afterMeeting pc t (now (registers .entry)) (meet machine t id second)) ⌝ }
+    ensures { λ r. ⌜
+        (r ≡ meet machine t id second .machine)
+        × (now (registers .exit) ≡ afterMeeting pc t (now (registers .entry)) (meet machine t id second))
+        ⌝ }
 {
     let met = machine.meet(t, id, second);
     let trapped = met.trapped;
@@ -35,33 +37,18 @@ fn meet(registers: &mut [u32], machine: Machine, t: usize, pc: u32, id: u32, sec
     met.machine
 }
 
-// The record after an issue, and whether a status in it may have changed.
+// The record after an issue, and whether a status in it was set: by a trap, an end or a barrier.
 pub struct Issued {
     pub machine: Machine,
     pub changed: bool,
 }
 
-// The issue of a thread that is "last" already.
-fn perform(
-    program: &[u32],
-    registers: &mut [u32],
-    memory: &mut [u8],
-    machine: Machine,
-    t: usize,
-) -> Issued
-    requires { ⌜ InRoom (now registers) t × (length (now program) ≤ programWords) ⌝ }
-    ensures { λ r. ⌜ (state (r .machine) (now (registers .exit)) (now (memory .exit)) ≡ perform (now (program .entry)) (state machine (now (registers .entry)) (now (memory .entry))) t) × (r .changed ≡ false → r .machine ≡ machine) ⌝ }
+// What becomes of the record.
+fn settle(registers: &mut [u32], machine: Machine, t: usize, pc: u32, effect: Effect) -> Issued
+    requires { ⌜ InRoom (now registers) t × (pc < 65536) ⌝ }
+    ensures { λ r. ⌜ Settles machine t pc (now (registers .entry)) effect r (now (registers .exit)) ⌝ }
 {
-    let words = program.len();
-    let pc = registers::scalar(registers, t, registers::PROGRAM_COUNTER);
-    if !jump::in_program(words, pc) {
-        return Issued {
-            machine: machine.trap(t, 4),
-            changed: true,
-        };
-    }
-    let w = program[(pc / 4) as usize];
-    match execute::word(words, machine.enabled, registers, memory, t, pc, w) {
+    match effect {
         Effect::Stays => Issued {
             machine,
             changed: false,
@@ -81,6 +68,35 @@ fn perform(
     }
 }
 
+// The issue of a thread that is "last" already.
+fn perform(
+    program: &[u32],
+    registers: &mut [u32],
+    memory: &mut [u8],
+    machine: Machine,
+    t: usize,
+) -> Issued
+    requires { ⌜ InRoom (now registers) t × (length (now program) ≤ programWords) ⌝ }
+    ensures { λ r. ⌜
+        (state (r .machine) (now (registers .exit)) (now (memory .exit))
+        ≡ perform (now (program .entry)) (state machine (now (registers .entry)) (now (memory .entry))) t)
+        × (r .changed
+        ≡ performSetsStatus (now (program .entry)) (state machine (now (registers .entry)) (now (memory .entry))) t)
+        ⌝ }
+{
+    let words = program.len();
+    let pc = registers::scalar(registers, t, registers::PROGRAM_COUNTER);
+    if !jump::in_program(words, pc) {
+        return Issued {
+            machine: machine.trap(t, 4),
+            changed: true,
+        };
+    }
+    let w = program[(pc / 4) as usize];
+    let effect = execute::word(words, machine.enabled, registers, memory, t, pc, w);
+    settle(registers, machine, t, pc, effect)
+}
+
 // The same, for any lengths and any thread number.
 pub fn issue(
     program: &[u32],
@@ -89,7 +105,12 @@ pub fn issue(
     machine: Machine,
     thread: usize,
 ) -> Issued
-    ensures { λ r. ⌜ (state (r .machine) (now (registers .exit)) (now (memory .exit)) ≡ issue (now (program .entry)) (state machine (now (registers .entry)) (now (memory .entry))) thread) × (r .changed ≡ false → r .machine ≡ machine) ⌝ }
+    ensures { λ r. ⌜
+        (state (r .machine) (now (registers .exit)) (now (memory .exit))
+        ≡ issue (now (program .entry)) (state machine (now (registers .entry)) (now (memory .entry))) thread)
+        × (r .changed
+        ≡ issueSetsStatus (now (program .entry)) (state machine (now (registers .entry)) (now (memory .entry))) thread)
+        ⌝ }
 {
     if fits(program.len(), registers.len(), thread) {
         return perform(program, registers, memory, machine, thread);
