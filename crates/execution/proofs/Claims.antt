@@ -1,19 +1,24 @@
 -- The claims of specs/, proved.
-use Prim.Native.Nat.{ℕ, _/_}
+use Prim.Native.Nat.{ℕ, _+_, _/_}
 use mathlib.Core.Bool.{Bool, true, false, cond}
 use mathlib.Core.List.{List}
-use mathlib.Core.Path.{_≡_, refl, _∙_}
+use mathlib.Core.Path.{_≡_, refl, sym, ap, _∙_}
 use native.Mathlib.Omega.{arith}
-use lib.ListN.{length, getD, length-set}
+use lib.ListN.{length, getD}
 use borrow.Author.Tests.{le-leb, lt-ltb, eq-eqb}
 use Rattle.machine.proofs.Claims.{traps, ends, meets}
-use Rattle.machine.specs.Barrier.{meet}
-use Rattle.machine.specs.Claims.{Sound}
-use Rattle.machine.specs.Machine.{trap}
+use Rattle.machine.proofs.Arrivals.{arrives-untrapped}
+use Rattle.machine.proofs.Kept.{set-same, set-other, running-entry}
 use Rattle.machine.proofs.Tests.{never}
+use Rattle.machine.specs.Barrier.{refusesMeeting, arrive, meet}
+use Rattle.machine.specs.Claims.{Sound}
+use Rattle.machine.specs.Machine.{statusAt, trap}
+use Rattle.machine.specs.Scheduler.{runs}
+use Rattle.machine.specs.Status.{isRunning}
 use Rattle.execution.specs.Effect.{Executed}
-use Rattle.execution.proofs.Effects.{Reasoned, executes-word}
-use Rattle.execution.specs.Claims.{Performs, Lengths, Issues, Untouched}
+use Rattle.execution.proofs.Effects.{Reasoned, UnlessGoesOn, executes-word}
+use Rattle.execution.proofs.OwnRegisters.{Own, own-none, own-then, own-scalar, own-others}
+use Rattle.execution.specs.Claims.{Performs, Lengths, Issues, Untouched, TrapsOnly, TrapsAlone, OthersKeepRegisters}
 use Rattle.execution.specs.Issue.{
   executeWord,
   afterMeeting,
@@ -29,30 +34,66 @@ use Rattle.execution.specs.Issue.{
 use Rattle.execution.specs.Jump.{inProgram}
 use Rattle.execution.specs.Registers.{programCounter}
 use Rattle.machine.specs.State.{State, state}
-use Rattle.execution.specs.Types.{Effect, Stays, Traps, Ends, Meets, Meeting}
+use Rattle.execution.specs.Types.{Effect, Stays, Traps, Ends, Meets, Meeting, Ended, Trapped}
 
 -- what an issue makes of a state
 record Lawful-issue (s : State) (t : ℕ) (n : State) : Type 0 where
   sound : Sound (s .machine) t (n .machine)
-  registers : length (n .registers) ≡ length (s .registers)
-  memory : length (n .memory) ≡ length (s .memory)
+  own : Own t (s .registers) (n .registers)
+  bytes : length (n .memory) ≡ length (s .memory)
+  traps-only : (reason : ℕ) → runs (s .machine) t ≡ true → statusAt (n .machine) t ≡ Trapped reason → TrapsOnly s t n
 
-meeting-kept : (pc t : ℕ) (room : List ℕ) (met : Meeting) → length (afterMeeting pc t room met) ≡ length room
-meeting-kept pc t room met = go (met .trapped)
+meeting-own : (pc t : ℕ) (room : List ℕ) (met : Meeting) → Own t room (afterMeeting pc t room met)
+meeting-own pc t room met = go (met .trapped)
   where
-    go : (b : Bool) → length (afterMeeting pc t room (record { trapped = b; machine = met .machine })) ≡ length room
-    go true = refl
-    go false = length-set room _ _
+    go : (b : Bool) → Own t room (afterMeeting pc t room (record { trapped = b; machine = met .machine }))
+    go true = own-none t room
+    go false = own-scalar t room 63 (pc + 4) (omega arith)
 
 module _ (s : State) (t pc : ℕ) where
-  settles : (e : Effect) (room memory : List ℕ) → Reasoned e → length room ≡ length (s .registers) → length memory ≡ length (s .memory) →
-      Lawful-issue s t (settle (s .machine) t pc room memory e)
-  settles Stays room memory h k l =
-      record { sound = record { enabled = refl; last = refl; running = λ u n r. r; well-formed = λ w r. w }; registers = k; memory = l }
-  settles (Traps reason) room memory h k l = record { sound = traps (s .machine) t reason (h .0) (h .1); registers = k; memory = l }
-  settles Ends room memory h k l = record { sound = ends (s .machine) t; registers = k; memory = l }
-  settles (Meets id second) room memory h k l =
-      record { sound = meets (s .machine) t id second; registers = meeting-kept pc t room (meet (s .machine) t id second) ∙ k; memory = l }
+  -- only a trap leaves the thread trapped
+  settled-trap : (e : Effect) (room memory : List ℕ) → UnlessGoesOn e (room ≡ s .registers) → UnlessGoesOn e (memory ≡ s .memory) → (reason : ℕ)
+      → runs (s .machine) t ≡ true → statusAt (settle (s .machine) t pc room memory e .machine) t ≡ Trapped reason
+      → TrapsOnly s t (settle (s .machine) t pc room memory e)
+  unfolding meet
+  settled-trap Stays room memory u v reason r h = never r (ap isRunning h)
+  settled-trap (Traps q) room memory u v reason r h =
+      record { registers = u; memory = v; enabled = refl; last = refl; others = set-other (s .machine) t (Trapped q) }
+  settled-trap Ends room memory u v reason r h =
+      let e : Ended ≡ Trapped reason = sym (set-same (s .machine) t Ended (running-entry (s .machine) t r)) ∙ h in
+      absurd (let z : _≡_ {A = ℕ} 0 1 = cc in omega arith)
+  settled-trap (Meets id second) room memory u v reason r h = go (refusesMeeting (s .machine) t id second) h
+    where
+      met : Bool → Meeting
+      met b =
+          cond b
+          (record { trapped = true; machine = trap (s .machine) t 5 })
+          (record { trapped = false; machine = arrive (s .machine) t id (second + 1) })
+
+      go : (b : Bool) → statusAt (met b .machine) t ≡ Trapped reason → TrapsOnly s t (state (met b .machine) (afterMeeting pc t room (met b)) memory)
+      go true k = record { registers = u; memory = v; enabled = refl; last = refl; others = set-other (s .machine) t (Trapped 5) }
+      go false k = absurd (arrives-untrapped (s .machine) t id (second + 1) reason (running-entry (s .machine) t r) k)
+
+  settles : (e : Effect) (room memory : List ℕ) → Reasoned e → Own t (s .registers) room → length memory ≡ length (s .memory)
+      → UnlessGoesOn e (room ≡ s .registers) → UnlessGoesOn e (memory ≡ s .memory) → Lawful-issue s t (settle (s .machine) t pc room memory e)
+  settles Stays room memory h k l u v =
+      record {
+        sound = record { enabled = refl; last = refl; running = λ x n r. r; well-formed = λ w r. w };
+        own = k;
+        bytes = l;
+        traps-only = settled-trap Stays room memory u v;
+      }
+  settles (Traps reason) room memory h k l u v =
+      record { sound = traps (s .machine) t reason (h .0) (h .1); own = k; bytes = l; traps-only = settled-trap (Traps reason) room memory u v }
+  settles Ends room memory h k l u v =
+      record { sound = ends (s .machine) t; own = k; bytes = l; traps-only = settled-trap Ends room memory u v }
+  settles (Meets id second) room memory h k l u v =
+      record {
+        sound = meets (s .machine) t id second;
+        own = own-then k (meeting-own pc t room (meet (s .machine) t id second));
+        bytes = l;
+        traps-only = settled-trap (Meets id second) room memory u v;
+      }
 
   either : (b : Bool) (x y : State) → Lawful-issue s t x → Lawful-issue s t y → Lawful-issue s t (cond b x y)
   either true x y h k = h
@@ -64,14 +105,21 @@ lawful p s t =
     let pc = programCounter (s .registers) t in
     let x = executeWord (length p) (s .machine .enabled) t (s .registers) (s .memory) pc (getD p (pc / 4) 0) in
     let h = executes-word (length p) (s .machine .enabled) t (s .registers) (s .memory) pc (getD p (pc / 4) 0) in
-    either s t pc (inProgram (length p) pc) (settled (s .machine) t pc x) _ (settles s t pc (x .effect) (x .registers) (x .memory) (h .0) (h .1) (h .2))
-    (settles s t pc (Traps 4) (s .registers) (s .memory) (omega arith, omega arith) refl refl)
+    either s t pc (inProgram (length p) pc) (settled (s .machine) t pc x) _
+    (settles s t pc (x .effect) (x .registers) (x .memory) (h .reasoned) (h .own) (h .bytes) (h .unchanged) (h .unstored))
+    (settles s t pc (Traps 4) (s .registers) (s .memory) (omega arith, omega arith) (own-none t (s .registers)) refl refl refl)
 
 pub performs : Performs
 performs p s t = lawful p s t .sound
 
 pub lengths : Lengths
-lengths = record { of-registers = λ p s t. lawful p s t .registers; of-memory = λ p s t. lawful p s t .memory }
+lengths = record { of-registers = λ p s t. lawful p s t .own .size; of-memory = λ p s t. lawful p s t .bytes }
+
+pub traps-alone : TrapsAlone
+traps-alone p s t reason r h = lawful p s t .traps-only reason r h
+
+pub others-keep-registers : OthersKeepRegisters
+others-keep-registers p s t u a b n = own-others t u (s .registers) (perform p s t .registers) a b n (lawful p s t .own)
 
 pub issues : Issues
 unfolding issue

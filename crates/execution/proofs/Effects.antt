@@ -1,28 +1,29 @@
--- What an instruction gives and leaves: a trap has a reason of 1 to 6, and no length changes.
-use Prim.Native.Nat.{ℕ, _-_, _%_, _^_, _≤_}
+-- What an instruction gives and leaves: a trap has a reason of 1 to 6 and changes nothing, no other thread's registers change, and no
+-- length does.
+use Prim.Native.Nat.{ℕ, _+_, _-_, _%_, _^_, _<_, _≤_}
 use mathlib.Core.Bool.{Bool, true, false, cond, not}
 use mathlib.Core.List.{List}
 use mathlib.Core.Option.{Option, none, some}
-use mathlib.Core.Path.{_≡_, refl, _∙_}
+use mathlib.Core.Path.{_≡_, refl}
 use native.Mathlib.Omega.{arith}
 use lib.Dec.{eqb, leb}
-use lib.ListN.{length, length-set}
+use lib.ListN.{length}
 use Rattle.answer.specs.Answer.{Answer, given, refused, undefined}
+use Rattle.isa.proofs.Ranges.{in-range}
+use Rattle.isa.specs.Claims.{Ranged, InRange}
 use Rattle.isa.specs.Read.{read}
 use Rattle.memory.proofs.Claimed.{lengths}
 use Rattle.memory.specs.Attempt.{Attempt, done, trap, onward, misaligned, outside}
 use Rattle.memory.specs.Bytes.{numberAt, withNumber}
 use Rattle.memory.specs.Operation.{load, store, loadLanes, storeLanes, changed, gathered, scalarPlace, vectorPlace, vectorAlignment, bytesLoaded, widened, bytesStored, withLanes, Outcome}
 use Rattle.memory.specs.Place.{place, lifted, inside}
-use Rattle.execution.proofs.Lengths.{scalar-kept, lanes-kept, R-kept, I-kept, Movei-kept}
+use Rattle.execution.proofs.OwnRegisters.{Own, own-none, own-then, own-scalar, own-lanes, own-R, own-I, own-Movei}
 use Rattle.execution.specs.Access.{attempted, stored, loadInto, storeFrom, loadLanesInto, storeLanesFrom}
 use Rattle.execution.specs.Control.{controlRegister, readInto, readControl}
-use Rattle.execution.specs.Effect.{Step, trapped, next, Executed}
+use Rattle.execution.specs.Effect.{Step, step, trapped, next, Executed, beside}
 use Rattle.execution.specs.Issue.{execute, executeRead, executeWord}
 use Rattle.execution.specs.Jump.{inProgram, jumpTo, jumpBy, linked}
-use Rattle.execution.specs.Immediate.{moveImmediate}
-use Rattle.execution.specs.Operation.{operateR, operateI}
-use Rattle.execution.specs.Registers.{scalar, vector, withScalar, laneMask, withLanesOn}
+use Rattle.execution.specs.Registers.{scalar, vector, withScalar, withProgramCounter, laneMask, linkRegister, withLanesOn}
 use Rattle.execution.specs.Types.{Effect, Stays, Traps, Ends, Meets, Instruction, R, I, Movei, J, C, M, Jmp, Jmpsr, Jret, Beqz, Bnez, Barrier, Readcr, End, Load, Store, LoadVector, StoreVector, LoadOp, StoreOp}
 
 -- a trap has a reason of 1 to 6
@@ -32,42 +33,73 @@ Reasoned (Traps reason) = (1 ≤ reason) × (reason ≤ 6)
 Reasoned Ends = Unit {0}
 Reasoned (Meets id second) = Unit {0}
 
--- so much of a step from a room
-abbrev Sound : List ℕ → Step → Type 0
-Sound room s = Reasoned (s .effect) × (length (s .registers) ≡ length room)
+-- what holds where an instruction does not go on: it traps, or meets at a barrier
+abbrev pub UnlessGoesOn : Effect → Type 0 → Type 0
+UnlessGoesOn Stays A = Unit {0}
+UnlessGoesOn (Traps reason) A = A
+UnlessGoesOn Ends A = Unit {0}
+UnlessGoesOn (Meets id second) A = A
+
+-- so much of a step of thread t from a room
+record Sound (t : ℕ) (room : List ℕ) (s : Step) : Type 0 where
+  reasoned : Reasoned (s .effect)
+  own : Own t room (s .registers)
+  unchanged : UnlessGoesOn (s .effect) (s .registers ≡ room)
 
 -- and of an instruction, from a room and a memory
-abbrev pub Lawful : List ℕ → List ℕ → Executed → Type 0
-Lawful room memory x = Reasoned (x .effect) × (length (x .registers) ≡ length room) × (length (x .memory) ≡ length memory)
+pub record Lawful (t : ℕ) (room memory : List ℕ) (x : Executed) : Type 0 where
+  pub reasoned : Reasoned (x .effect)
+  pub own : Own t room (x .registers)
+  pub bytes : length (x .memory) ≡ length memory
+  pub unchanged : UnlessGoesOn (x .effect) (x .registers ≡ room)
+  pub unstored : UnlessGoesOn (x .effect) (x .memory ≡ memory)
 
-either : (room : List ℕ) (b : Bool) (x y : Step) → Sound room x → Sound room y → Sound room (cond b x y)
-either room true x y h k = h
-either room false x y h k = k
+always : {A : Type 0} (e : Effect) → A → UnlessGoesOn e A
+always Stays a = tt
+always (Traps reason) a = a
+always Ends a = tt
+always (Meets id second) a = a
 
-onwards : (room : List ℕ) (pc t : ℕ) (r : List ℕ) → length r ≡ length room → Sound room (next pc t r)
-onwards room pc t r h = (tt, length-set r _ _ ∙ h)
+-- a step that leaves memory
+steps : (t : ℕ) (room memory : List ℕ) {s : Step} → Sound t room s → Lawful t room memory (beside s memory)
+steps t room memory {s} h =
+    record { reasoned = h .reasoned; own = h .own; bytes = refl; unchanged = h .unchanged; unstored = always (s .effect) refl }
 
-traps-four : (room : List ℕ) → Sound room (trapped 4 room)
-traps-four room = ((omega arith, omega arith), refl)
+either : (t : ℕ) (room : List ℕ) (b : Bool) {x y : Step} → Sound t room x → Sound t room y → Sound t room (cond b x y)
+either t room true h k = h
+either t room false h k = k
+
+-- the program counter is the thread's own
+jumps : (t : ℕ) (room : List ℕ) {x : List ℕ} (address : ℕ) → Own t room x → Sound t room (step Stays (withProgramCounter x t address))
+jumps t room {x} address h = record { reasoned = tt; own = own-then h (own-scalar t x 63 address (omega arith)); unchanged = tt }
+
+onwards : (t : ℕ) (room : List ℕ) {x : List ℕ} (pc : ℕ) → Own t room x → Sound t room (next pc t x)
+onwards t room pc h = jumps t room (pc + 4) h
+
+trap-sound : (t : ℕ) (room : List ℕ) (reason : ℕ) → 1 ≤ reason → reason ≤ 6 → Sound t room (trapped reason room)
+trap-sound t room reason l h = record { reasoned = (l, h); own = own-none t room; unchanged = refl }
+
+traps-four : (t : ℕ) (room : List ℕ) → Sound t room (trapped 4 room)
+traps-four t room = trap-sound t room 4 (omega arith) (omega arith)
 
 -- Jumps.
-module _ (words t : ℕ) (room linked : List ℕ) (k : length linked ≡ length room) where
-  jumps-to : (address : ℕ) → Sound room (jumpTo words t room linked address)
+module _ (words t : ℕ) (room linked : List ℕ) (k : Own t room linked) where
+  jumps-to : (address : ℕ) → Sound t room (jumpTo words t room linked address)
   unfolding jumpTo
-  jumps-to address = either room (inProgram words address) _ (trapped 4 room) (tt, length-set linked _ _ ∙ k) (traps-four room)
+  jumps-to address = either t room (inProgram words address) (jumps t room address k) (traps-four t room)
 
-  jumps-by : (pc offset : ℕ) → Sound room (jumpBy words t room linked pc offset)
+  jumps-by : (pc offset : ℕ) → Sound t room (jumpBy words t room linked pc offset)
   unfolding jumpBy
-  jumps-by pc offset = either room (leb (2 ^ 32) (lifted pc offset)) _ (trapped 4 room) (jumps-to _) (traps-four room)
+  jumps-by pc offset = either t room (leb (2 ^ 32) (lifted pc offset)) (jumps-to (lifted pc offset - 2 ^ 32)) (traps-four t room)
 
 -- readcr
-reads-into : (room : List ℕ) (pc t d : ℕ) (o : Option ℕ) → Sound room (readInto pc t room d o)
-reads-into room pc t d none = ((omega arith, omega arith), refl)
-reads-into room pc t d (some x) = onwards room pc t (withScalar room t d x) (scalar-kept room t d x)
+reads-into : (t : ℕ) (room : List ℕ) (pc d : ℕ) (o : Option ℕ) → d < 64 → Sound t room (readInto pc t room d o)
+reads-into t room pc d none l = trap-sound t room 6 (omega arith) (omega arith)
+reads-into t room pc d (some x) l = onwards t room pc (own-scalar t room d x l)
 
-reads-control : (enabled t : ℕ) (room : List ℕ) (pc first second : ℕ) → Sound room (readControl enabled t room pc first second)
+reads-control : (enabled t : ℕ) (room : List ℕ) (pc first second : ℕ) → first < 64 → Sound t room (readControl enabled t room pc first second)
 unfolding readControl
-reads-control enabled t room pc first second = reads-into room pc t first (controlRegister enabled t pc (scalar room t second))
+reads-control enabled t room pc first second l = reads-into t room pc first (controlRegister enabled t pc (scalar room t second)) l
 
 -- Loads and stores: an access traps with 1 or 2.
 abbrev Attempted : {A : Type 0} → Attempt A → Type 0
@@ -101,10 +133,10 @@ gathers : (a : Attempt ℕ) (m : List ℕ) → Attempted a → Attempted (gather
 gathers (done x) m h = tt
 gathers (trap reason) m h = h
 
-attempts : {A : Type 0} (room : List ℕ) (pc t : ℕ) (a : Attempt A) (f : A → List ℕ) → ((x : A) → length (f x) ≡ length room) → Attempted a →
-    Sound room (attempted pc t room a f)
-attempts room pc t (done x) f k h = onwards room pc t (f x) (k x)
-attempts room pc t (trap reason) f k h = ((h .0, omega (arith, h .1)), refl)
+attempts : {A : Type 0} (t : ℕ) (room : List ℕ) (pc : ℕ) (a : Attempt A) (f : A → List ℕ) → ((x : A) → Own t room (f x)) → Attempted a →
+    Sound t room (attempted pc t room a f)
+attempts t room pc (done x) f k h = onwards t room pc (k x)
+attempts t room pc (trap reason) f k h = trap-sound t room reason (h .0) (omega (arith, h .1))
 
 load-attempted : (op : LoadOp) (memory : List ℕ) (base offset : ℕ) → Attempted (load op memory base offset)
 unfolding load
@@ -123,67 +155,81 @@ store-lanes-attempted : (memory : List ℕ) (base offset mask : ℕ) (v : List �
 unfolding storeLanes
 store-lanes-attempted memory base offset mask v = changes (vectorPlace memory base offset) memory (λ a. withLanes memory a mask v) (vector-placed memory base offset)
 
+-- a store that traps leaves memory
+change-kept : (a : Attempt ℕ) (m : List ℕ) (f : ℕ → List ℕ) (t pc : ℕ) (room : List ℕ)
+    → UnlessGoesOn (stored pc t room (changed a m f) .effect) (changed a m f .memory ≡ m)
+change-kept (done x) m f t pc room = tt
+change-kept (trap reason) m f t pc room = refl
+
 module _ (t : ℕ) (room memory : List ℕ) (pc register base offset : ℕ) where
-  loads : (op : LoadOp) → Sound room (loadInto t room memory pc op register base offset)
+  loads : (op : LoadOp) → register < 64 → Sound t room (loadInto t room memory pc op register base offset)
   unfolding loadInto
-  loads op =
-      attempts room pc t (load op memory (scalar room t base) offset) (λ x. withScalar room t register x) (λ x. scalar-kept room t register x)
+  loads op l =
+      attempts t room pc (load op memory (scalar room t base) offset) (λ x. withScalar room t register x) (λ x. own-scalar t room register x l)
       (load-attempted op memory (scalar room t base) offset)
 
-  loads-lanes : Sound room (loadLanesInto t room memory pc register base offset)
+  loads-lanes : register < 64 → Sound t room (loadLanesInto t room memory pc register base offset)
   unfolding loadLanesInto
-  loads-lanes =
+  loads-lanes l =
       let g = loadLanes memory (scalar room t base) offset in
-      attempts room pc t (g .answer) (λ x. withLanesOn room t register (g .lanes)) (λ x. lanes-kept room t register (g .lanes))
+      attempts t room pc (g .answer) (λ x. withLanesOn room t register (g .lanes)) (λ x. own-lanes t room register (g .lanes) l)
       (load-lanes-attempted memory (scalar room t base) offset)
 
   -- a store: the registers are those of an attempt that leads on to the room itself
-  leaves : (o : Outcome) → Attempted (o .answer) → length (o .memory) ≡ length memory → Lawful room memory (stored pc t room o)
-  leaves o h k = let a = attempts room pc t (o .answer) (λ x. room) (λ x. refl) h in (a .0, a .1, k)
+  leaves : (o : Outcome) → Attempted (o .answer) → length (o .memory) ≡ length memory
+      → UnlessGoesOn (stored pc t room o .effect) (o .memory ≡ memory) → Lawful t room memory (stored pc t room o)
+  leaves o h k u =
+      let a = attempts t room pc (o .answer) (λ x. room) (λ x. own-none t room) h in
+      record { reasoned = a .reasoned; own = a .own; bytes = k; unchanged = a .unchanged; unstored = u }
 
-  stores : (op : StoreOp) → Lawful room memory (storeFrom t room memory pc op register base offset)
-  unfolding storeFrom
+  stores : (op : StoreOp) → Lawful t room memory (storeFrom t room memory pc op register base offset)
+  unfolding storeFrom store
   stores op =
       leaves (store op memory (scalar room t base) offset (scalar room t register)) (store-attempted op memory (scalar room t base) offset (scalar room t register))
       (lengths .of-store op memory (scalar room t base) offset (scalar room t register))
+      (change-kept (scalarPlace (bytesStored op) memory (scalar room t base) offset) memory
+      (λ a. withNumber (bytesStored op) memory a (scalar room t register)) t pc room)
 
-  stores-lanes : Lawful room memory (storeLanesFrom t room memory pc register base offset)
-  unfolding storeLanesFrom
+  stores-lanes : Lawful t room memory (storeLanesFrom t room memory pc register base offset)
+  unfolding storeLanesFrom storeLanes
   stores-lanes =
       let v = vector room t register in
       let mask = laneMask room t in
       leaves (storeLanes memory (scalar room t base) offset mask v) (store-lanes-attempted memory (scalar room t base) offset mask v)
       (lengths .of-store-lanes memory (scalar room t base) offset mask v)
+      (change-kept (vectorPlace memory (scalar room t base) offset) memory (λ a. withLanes memory a mask v) t pc room)
 
 -- Every instruction.
-executes : (words enabled t : ℕ) (room memory : List ℕ) (pc : ℕ) (i : Instruction) → Lawful room memory (execute words enabled t room memory pc i)
-executes words enabled t room memory pc (R op flags d a b) = (tt, onwards room pc t (operateR room t op flags d a b) (R-kept room t op flags d a b) .1, refl)
-executes words enabled t room memory pc (I op flags d a n) = (tt, onwards room pc t (operateI room t op flags d a n) (I-kept room t op flags d a n) .1, refl)
-executes words enabled t room memory pc (Movei op flag d n) = (tt, onwards room pc t (moveImmediate room t op (eqb flag 1) d n) (Movei-kept room t op (eqb flag 1) d n) .1, refl)
-executes words enabled t room memory pc (J Jmp r o) = let h = jumps-by words t room room refl pc o in (h .0, h .1, refl)
-executes words enabled t room memory pc (J Jmpsr r o) =
-    let h = jumps-by words t room (linked pc t room) (scalar-kept room t _ _) pc o in (h .0, h .1, refl)
-executes words enabled t room memory pc (J Jret r o) = let h = jumps-to words t room room refl _ in (h .0, h .1, refl)
-executes words enabled t room memory pc (J Beqz r o) =
-    let h = either room (eqb (scalar room t r) 0) _ (next pc t room) (jumps-by words t room room refl pc o) (onwards room pc t room refl) in (h .0, h .1, refl)
-executes words enabled t room memory pc (J Bnez r o) =
-    let h = either room (not (eqb (scalar room t r) 0)) _ (next pc t room) (jumps-by words t room room refl pc o) (onwards room pc t room refl) in (h .0, h .1, refl)
-executes words enabled t room memory pc (C Barrier first second) = (tt, refl, refl)
-executes words enabled t room memory pc (C Readcr first second) = let h = reads-control enabled t room pc first second in (h .0, h .1, refl)
-executes words enabled t room memory pc (C End first second) = (tt, scalar-kept room t _ _, refl)
-executes words enabled t room memory pc (M (Load op) r b o) = let h = loads t room memory pc r b o op in (h .0, h .1, refl)
-executes words enabled t room memory pc (M (Store op) r b o) = stores t room memory pc r b o op
-executes words enabled t room memory pc (M LoadVector r b o) = let h = loads-lanes t room memory pc r b o in (h .0, h .1, refl)
-executes words enabled t room memory pc (M StoreVector r b o) = stores-lanes t room memory pc r b o
+module _ (words enabled t : ℕ) (room memory : List ℕ) (pc : ℕ) where
+  executes : (i : Instruction) → Ranged i → Lawful t room memory (execute words enabled t room memory pc i)
+  executes (R op flags d a b) l = steps t room memory (onwards t room pc (own-R t room op flags d a b (l .0)))
+  executes (I op flags d a n) l = steps t room memory (onwards t room pc (own-I t room op flags d a n (l .0)))
+  executes (Movei op flag d n) l = steps t room memory (onwards t room pc (own-Movei t room op (eqb flag 1) d n (l .0)))
+  executes (J Jmp r o) l = steps t room memory (jumps-by words t room room (own-none t room) pc o)
+  executes (J Jmpsr r o) l = steps t room memory (jumps-by words t room (linked pc t room) (own-scalar t room linkRegister (pc + 4) (omega arith)) pc o)
+  executes (J Jret r o) l = steps t room memory (jumps-to words t room room (own-none t room) (scalar room t linkRegister))
+  executes (J Beqz r o) l =
+      steps t room memory
+      (either t room (eqb (scalar room t r) 0) (jumps-by words t room room (own-none t room) pc o) (onwards t room pc (own-none t room)))
+  executes (J Bnez r o) l =
+      steps t room memory
+      (either t room (not (eqb (scalar room t r) 0)) (jumps-by words t room room (own-none t room) pc o) (onwards t room pc (own-none t room)))
+  executes (C Barrier first second) l = record { reasoned = tt; own = own-none t room; bytes = refl; unchanged = refl; unstored = refl }
+  executes (C Readcr first second) l = steps t room memory (reads-control enabled t room pc first second (l .0))
+  executes (C End first second) l = record { reasoned = tt; own = own-scalar t room 63 (pc + 4) (omega arith); bytes = refl; unchanged = tt; unstored = tt }
+  executes (M (Load op) r b o) l = steps t room memory (loads t room memory pc r b o op (l .0))
+  executes (M (Store op) r b o) l = stores t room memory pc r b o op
+  executes (M LoadVector r b o) l = steps t room memory (loads-lanes t room memory pc r b o (l .0))
+  executes (M StoreVector r b o) l = stores-lanes t room memory pc r b o
 
-executes-read : (words enabled t : ℕ) (room memory : List ℕ) (pc : ℕ) (a : Answer Instruction) → Lawful room memory (executeRead words enabled t room memory pc a)
-executes-read words enabled t room memory pc (given i) = executes words enabled t room memory pc i
-executes-read words enabled t room memory pc (refused number) = (go (eqb number undefined), refl, refl)
-  where
-    go : (b : Bool) → (1 ≤ cond b 3 6) × (cond b 3 6 ≤ 6)
-    go true = (omega arith, omega arith)
-    go false = (omega arith, omega arith)
+  executes-read : (a : Answer Instruction) → ((i : Instruction) → a ≡ given i → Ranged i) → Lawful t room memory (executeRead words enabled t room memory pc a)
+  executes-read (given i) l = executes i (l i refl)
+  executes-read (refused number) l = steps t room memory (go (eqb number undefined))
+    where
+      go : (b : Bool) → Sound t room (trapped (cond b 3 6) room)
+      go true = trap-sound t room 3 (omega arith) (omega arith)
+      go false = trap-sound t room 6 (omega arith) (omega arith)
 
-pub executes-word : (words enabled t : ℕ) (room memory : List ℕ) (pc w : ℕ) → Lawful room memory (executeWord words enabled t room memory pc w)
-unfolding executeWord
-executes-word words enabled t room memory pc w = executes-read words enabled t room memory pc (read w)
+  pub executes-word : (w : ℕ) → Lawful t room memory (executeWord words enabled t room memory pc w)
+  unfolding executeWord InRange
+  executes-word w = executes-read (read w) (in-range w)

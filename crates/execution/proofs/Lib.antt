@@ -2,6 +2,6 @@
 pub mod Targets
 pub mod Fitting
 pub mod Issues
-pub mod Lengths
+pub mod OwnRegisters
 pub mod Effects
 pub mod Claims

@@ -1,13 +1,17 @@
 -- What is proved of one issue, for other crates to cite.
 use Prim.Native.Nat.{ℕ, _≤_, _<_}
-use mathlib.Core.Bool.{false}
+use mathlib.Core.Bool.{true, false}
 use mathlib.Core.Path.{_≡_}
 use mathlib.Core.List.{List}
-use lib.ListN.{length}
+use lib.ListN.{length, getD}
 use Rattle.answer.specs.Refusal.{programWords, roomWords}
 use Rattle.machine.specs.Claims.{Sound}
-use Rattle.machine.specs.State.{State}
+use Rattle.machine.specs.Machine.{statusAt}
+use Rattle.machine.specs.Scheduler.{runs}
+use Rattle.machine.specs.State.{State, lanePlace}
 use Rattle.execution.specs.Issue.{perform, issue, issueSetsStatus}
+use Rattle.execution.specs.Registers.{scalar}
+use Rattle.execution.specs.Types.{Trapped}
 
 -- what an issue makes of the record
 abbrev pub Performs : Type 0
@@ -25,3 +29,27 @@ Issues = (p : List ℕ) (s : State) (t : ℕ) → length p ≤ programWords → 
 -- an issue that sets no status leaves the record
 abbrev pub Untouched : Type 0
 Untouched = (p : List ℕ) (s : State) (t : ℕ) → issueSetsStatus p s t ≡ false → issue p s t .machine ≡ s .machine
+
+-- "A trap changes only that entry's status and "last"." The thread became "last" when it was chosen, so that the trap of thread t
+-- leaves all else of a state s.
+pub record TrapsOnly (s : State) (t : ℕ) (n : State) : Type 0 where
+  pub registers : n .registers ≡ s .registers
+  pub memory : n .memory ≡ s .memory
+  pub enabled : n .machine .enabled ≡ s .machine .enabled
+  pub last : n .machine .last ≡ s .machine .last
+  pub others : (u : ℕ) → (u ≡ t → ⊥) → statusAt (n .machine) u ≡ statusAt (s .machine) u
+
+-- whichever check it is that traps
+abbrev pub TrapsAlone : Type 0
+TrapsAlone = (p : List ℕ) (s : State) (t reason : ℕ) → runs (s .machine) t ≡ true → statusAt (perform p s t .machine) t ≡ Trapped reason
+    → TrapsOnly s t (perform p s t)
+
+-- a thread has the same registers in two register rooms
+pub record SameRegisters (t : ℕ) (before after : List ℕ) : Type 0 where
+  pub scalars : (i : ℕ) → i < 64 → scalar after t i ≡ scalar before t i
+  pub lanes : (i j : ℕ) → i < 64 → j < 16 → getD after (lanePlace t i j) 0 ≡ getD before (lanePlace t i j) 0
+
+-- an issue leaves every other thread's registers
+abbrev pub OthersKeepRegisters : Type 0
+OthersKeepRegisters = (p : List ℕ) (s : State) (t u : ℕ) → t < 8 → u < 8 → (u ≡ t → ⊥)
+    → SameRegisters u (s .registers) (perform p s t .registers)

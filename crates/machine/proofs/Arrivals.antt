@@ -208,6 +208,25 @@ module _ (m : Machine) (t id count : ℕ) where
             well-formed = λ e r. tested met .1 (settled (tested m .0 e) r fine agree (eqb-false (waiting met id) count h));
           }
 
+-- who arrives and is not refused does not trap
+pub arrives-untrapped : (m : Machine) (t id count reason : ℕ) → t < length (m .threads) → statusAt (arrive m t id count) t ≡ Trapped reason → ⊥
+unfolding releaseIfMet
+arrives-untrapped m t id count reason l = go (eqb (waiting n id) count)
+  where
+    n : Machine
+    n = withStatusAt m t (Waiting id count)
+
+    waits-there : statusAt n t ≡ Waiting id count
+    waits-there = set-same m t (Waiting id count) l
+
+    either : (b : Bool) → cond b Running (Waiting id count) ≡ Trapped reason → ⊥
+    either true e = never refl (ap isRunning e)
+    either false e = never refl (ap isWaiting e)
+
+    go : (b : Bool) → statusAt (cond b (release n id) n) t ≡ Trapped reason → ⊥
+    go true e = either (eqb id id) (sym (release-status n id t ∙ ap (released id) waits-there) ∙ e)
+    go false e = either false (sym waits-there ∙ e)
+
 pub meets : Meets
 unfolding meet
 meets m t id second = go (refusesMeeting m t id second) refl

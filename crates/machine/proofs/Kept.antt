@@ -3,10 +3,10 @@ use Prim.Native.Nat.{ℕ, _<_, _≤_}
 use mathlib.Core.Bool.{true, false}
 use mathlib.Core.Logic.{_⊎_, inl, inr, ⊎-elim, _↔_}
 use mathlib.Core.Path.{_≡_, refl, sym, ap, _∙_}
-use native.Mathlib.Decide.{ℕ-discrete}
+use native.Mathlib.Decide.{ℕ-discrete, decLt}
 use native.Mathlib.Omega.{arith}
 use borrow.Author.Tests.{le-leb, eqb-true, eq-eqb}
-use lib.ListN.{length, getD, set, length-set}
+use lib.ListN.{length, getD, set, length-set, List·getD-eq-default}
 use lib.Seq.{getD-set-same, getD-set-other}
 use Rattle.machine.specs.Claims.{WellFormed, Sound, Traps, Ends, Issued, RunningEnabled}
 use Rattle.machine.specs.Machine.{zeroThread, statusAt, bit, withStatus, withStatusAt, trap, end}
@@ -99,6 +99,14 @@ module _ (m : Machine) (t : ℕ) (s : Status) where
 
   pub set-running : (u : ℕ) → (u ≡ t → ⊥) → runs m u ≡ true → runs (withStatusAt m t s) u ≡ true
   set-running u n h = ap isRunning (set-other u n) ∙ h
+
+-- a running thread has an entry
+pub running-entry : (m : Machine) (t : ℕ) → runs m t ≡ true → t < length (m .threads)
+running-entry m t r = go (decLt t (length (m .threads)))
+  where
+    go : Dec (t < length (m .threads)) → t < length (m .threads)
+    go (yes l) = l
+    go (no l) = never r (ap (λ x. isRunning (x .status)) (List·getD-eq-default (m .threads) zeroThread (omega (arith, l))))
 
 -- a running thread is one of the eight
 pub running-thread : (m : Machine) (t : ℕ) → WellFormed m → runs m t ≡ true → t < 8
