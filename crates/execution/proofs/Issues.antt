@@ -23,6 +23,7 @@ module _ (p : List ℕ) (s : State) (t pc : ℕ) (at : pc ≡ programCounter (s 
       (r : Issued) (after : List ℕ) → Settles (s .machine) t pc (x .registers) (x .effect) r after →
       (state (r .machine) after (x .memory) ≡ perform p s t) × (r .changed ≡ performSetsStatus p s t)
   unfolding perform performSetsStatus
-  performs-word h x e r after k =
-      (k .left (x .memory) ∙ rw (← at, h) (ap (λ (y : Executed). settled (s .machine) t pc y) e),
-      k .told ∙ rw (← at, h) (ap (λ (y : Executed). setsStatus (y .effect)) e))
+  performs-word h x e r after k = (
+    k .left (x .memory) ∙ rw (← at, h) (ap (λ (y : Executed). settled (s .machine) t pc y) e),
+    k .told ∙ rw (← at, h) (ap (λ (y : Executed). setsStatus (y .effect)) e),
+  )

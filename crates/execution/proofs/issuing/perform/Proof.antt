@@ -24,24 +24,41 @@ shared-slice-read-w : tie.Need-shared-slice-read-w
 shared-slice-read-w c =
     let test = c .before .before .in-program in
     let start = c .before .before .before .before .before .before .before .before in
-    omega (arith, before-end (length (start .args .program .now)) (c .before .before .before .scalar .result)
-    (sym (test .ensures) ∙ not-false (test .result) (c .before .if1 .left)))
+    omega (
+      arith,
+      before-end (length (start .args .program .now)) (c .before .before .before .scalar .result)
+          (sym (test .ensures) ∙ not-false (test .result) (c .before .if1 .left)),
+    )
 
 word-requires : tie.Need-word-requires
 word-requires c κs =
     let test = c .before .before .before .before .in-program in
     let pc = c .before .before .before .before .before .scalar in
-    let start = c .before .before .before .before .before .before .before .before .before .before in
-    (search needs, search needs, omega (arith, start .pre .1, before-end (length (start .args .program .now)) (pc .result)
-    (sym (test .ensures) ∙ not-false (test .result) (c .before .before .before .if1 .left))))
+    let start = c .before .before .before .before .before .before .before .before .before .before in (
+      search needs,
+      search needs,
+      omega (
+        arith,
+        start .pre .1,
+        before-end (length (start .args .program .now)) (pc .result)
+            (sym (test .ensures) ∙ not-false (test .result) (c .before .before .before .if1 .left)),
+      ),
+    )
 
 settle-requires : tie.Need-settle-requires
 settle-requires c κs =
     let fetched = c .before .before .before .before .before .before .before .before in
     let test = fetched .before .before .in-program in
-    let start = fetched .before .before .before .before .before .before .before .before in
-    (search needs, omega (arith, start .pre .1, before-end (length (start .args .program .now)) (fetched .before .before .before .scalar .result)
-    (sym (test .ensures) ∙ not-false (test .result) (fetched .before .if1 .left))))
+    let pc = fetched .before .before .before .scalar in
+    let start = fetched .before .before .before .before .before .before .before .before in (
+      search needs,
+      omega (
+        arith,
+        start .pre .1,
+        before-end (length (start .args .program .now)) (pc .result)
+            (sym (test .ensures) ∙ not-false (test .result) (fetched .before .if1 .left)),
+      ),
+    )
 
 -- a word is executed
 returns-2 : tie.Need-returns-2
