@@ -2,12 +2,12 @@
 use Prim.Native.Nat.{ℕ, zero, suc, _+_, _-_, _<_, _≤_}
 use mathlib.Core.Bool.{Bool, true, false, cond}
 use mathlib.Core.List.{List, [], _∷_}
-use mathlib.Core.Path.{_≡_, refl, ap, _∙_}
+use mathlib.Core.Path.{_≡_, refl, sym, ap, _∙_}
 use native.Mathlib.Omega.{arith}
 use lib.ListN.{length}
 use Rattle.answer.specs.Answer.{given}
-use Rattle.execution.proofs.Claims.{performs, issues as execution-issues}
-use Rattle.execution.specs.Issue.{issue}
+use Rattle.execution.proofs.Claims.{performs, untouched, issues as execution-issues}
+use Rattle.execution.specs.Issue.{issue, issueSetsStatus}
 use Rattle.machine.specs.State.{State, state}
 use Rattle.machine.proofs.Claims.{chooses, issues as machine-issues}
 use Rattle.machine.specs.Claims.{Sound}
@@ -30,6 +30,13 @@ unfolding issued
 issue-performed p s t d m words room h e =
     ap (λ x. issue p (state x (s .registers) (s .memory)) t) e
     ∙ execution-issues p (state (withLast (s .machine) t) (s .registers) (s .memory)) t words room (chosen-thread (s .machine) t d h)
+
+-- an issue that sets no status comes to the record on which the thread was issued
+pub issue-untouched : (p : List ℕ) (s after : State) (t : ℕ) → after ≡ issue p s t → (changed : Bool) → changed ≡ issueSetsStatus p s t →
+    changed ≡ false → state (s .machine) (after .registers) (after .memory) ≡ issue p s t
+issue-untouched p s after t e changed k h =
+    let same : after .machine ≡ s .machine = ap (λ (n : State). n .machine) e ∙ untouched p s t (sym k ∙ h) in
+    ap (λ (m : Machine). state m (after .registers) (after .memory)) (sym same) ∙ e
 
 -- what an issue makes of the record
 pub issued-sound : (p : List ℕ) (s : State) (t : ℕ) → Sound (withLast (s .machine) t) t (issued p s t .machine)

@@ -49,12 +49,13 @@ settle-requires : tie.Need-settle-requires
 settle-requires c κs =
     let fetched = c .before .before .before .before .before .before .before .before in
     let test = fetched .before .before .in-program in
+    let pc = fetched .before .before .before .scalar in
     let start = fetched .before .before .before .before .before .before .before .before in (
       search needs,
       omega (
         arith,
         start .pre .1,
-        before-end (length (start .args .program .now)) (fetched .before .before .before .scalar .result)
+        before-end (length (start .args .program .now)) (pc .result)
             (sym (test .ensures) ∙ not-false (test .result) (fetched .before .if1 .left)),
       ),
     )

@@ -1,6 +1,6 @@
 -- `running::make_stretch` meets its contract: each issue is the rules' next one, and the record stays until a status changes.
 use Prim.Native.Nat.{_-_, _≤_}
-use mathlib.Core.Path.{_≡_, refl, sym, ap, _∙_}
+use mathlib.Core.Path.{_≡_, refl, _∙_}
 use native.Mathlib.Omega.{arith}
 use borrow.Author.Needs.{needs}
 use lib.ListN.{length}
@@ -8,8 +8,8 @@ use Rattle.machine.specs.State.{state}
 use Rattle.machine.proofs.Claims.{turned}
 use Rattle.machine.proofs.Tests.{never}
 use Rattle.interpreter.specs.Stretch.{Carried}
-use Rattle.interpreter.specs.Types.{Machine, Chosen, NoneRunning}
-use Rattle.interpreter.proofs.Issuing.{carried-start, carried-issue, over-idle, over-spent}
+use Rattle.interpreter.specs.Types.{Chosen, NoneRunning}
+use Rattle.interpreter.proofs.Issuing.{carried-start, carried-issue, issue-untouched, over-idle, over-spent}
 use Rattle.interpreter.proofs.running.make_stretch.Statement.{statement}
 use Rattle.interpreter.proofs.running.make_stretch.Tie as tie
 
@@ -48,28 +48,30 @@ returns-2 c =
       carried = l .inv .3;
       within = l .inv .0;
       some-made = λ e. never e refl;
-      over = λ e. over-spent _ _ (state (l .machine) (l .registers) (l .memory)) (v .0 .0) (v .0 .1 .0) (chosen .0) (omega (arith, c .if1 .taken));
+      over =
+          λ e. over-spent _ _ (state (l .machine) (l .registers) (l .memory)) (v .0 .0) (v .0 .1 .0) (chosen .0)
+          (omega (arith, c .if1 .taken));
     }
 
--- the thread chosen is issued, and a status changes
+-- the thread chosen is issued, and a status is set
 returns-3 : tie.Need-returns-3 Inv-loop μ-loop
 returns-3 c =
-    let entry = c .before .before .before .before .before .before .before .before .before .before .before .before .before .before .before .before .before .before .before in
-    let l = c .before .before .before .before .before .before .before .before .before .before .before .before .before .before .before .loop in
-    let turn = c .before .before .before .before .before .before .before .before .before .before .before .before .before .before .choose in
-    let v = c .before .before .before .before .before .before .before .before .before .before .before .choice .given in
-    let i = c .before .before .before .before .before .before .issue in
+    let at = c .before .before .before .before .before .before .before .before .before in
+    let v = at .before .before .choice .given in
+    let turn = at .before .before .before .before .before .choose in
+    let l = at .before .before .before .before .before .before .loop in
+    let start = at .before .before .before .before .before .before .before .before .before .before in
     let chosen = turned (l .machine) (turn .result) (turn .ensures) (Chosen (v .0 .0) (v .0 .1 .0)) (v .1) in
     record {
       carried =
           carried-issue _ _ _ _ (state (l .machine) (l .registers) (l .memory)) (l .inv .3) (v .0 .0) (v .0 .1 .0) (turn .result .machine) _
-          (entry .pre .0)
-          (l .inv .1 ∙ entry .pre .1)
+          (start .pre .0)
+          (l .inv .1 ∙ start .pre .1)
           (chosen .0)
           (chosen .1)
-          (omega (arith, l .inv .0, c .before .before .before .before .before .before .before .before .before .if1 .left))
-          (i .ensures .0);
-      within = omega (arith, l .inv .0, c .before .before .before .before .before .before .before .before .before .if1 .left);
+          (omega (arith, l .inv .0, at .if1 .left))
+          (c .before .before .before .before .before .before .issue .ensures .0);
+      within = omega (arith, l .inv .0, at .if1 .left);
       some-made = λ e. omega arith;
       over = λ e. never (c .if2 .taken) e;
     }
@@ -77,23 +79,37 @@ returns-3 c =
 -- the thread chosen is issued, and nothing but "last" changes in the record
 loop-again : tie.Need-loop-again Inv-loop μ-loop
 loop-again c =
-    let entry = c .before .before .before .before .before .before .before .before .before .before .before .before .before .before .before .before .before .before .before in
-    let l = c .before .before .before .before .before .before .before .before .before .before .before .before .before .before .before .loop in
-    let turn = c .before .before .before .before .before .before .before .before .before .before .before .before .before .before .choose in
-    let v = c .before .before .before .before .before .before .before .before .before .before .before .choice .given in
     let i = c .before .before .before .before .before .before .issue in
+    let at = c .before .before .before .before .before .before .before .before .before in
+    let v = at .before .before .choice .given in
+    let turn = at .before .before .before .before .before .choose in
+    let l = at .before .before .before .before .before .before .loop in
+    let start = at .before .before .before .before .before .before .before .before .before .before in
     let chosen = turned (l .machine) (turn .result) (turn .ensures) (Chosen (v .0 .0) (v .0 .1 .0)) (v .1) in (
-      omega (arith, l .inv .0, c .before .before .before .before .before .before .before .before .before .if1 .left),
+      omega (arith, l .inv .0, at .if1 .left),
       i .kept .1 .0 ∙ l .inv .1,
       i .kept .1 .1 .0 ∙ l .inv .2,
       carried-issue _ _ _ _ (state (l .machine) (l .registers) (l .memory)) (l .inv .3) (v .0 .0) (v .0 .1 .0) (turn .result .machine) _
-          (entry .pre .0)
-          (l .inv .1 ∙ entry .pre .1)
+          (start .pre .0)
+          (l .inv .1 ∙ start .pre .1)
           (chosen .0)
           (chosen .1)
-          (omega (arith, l .inv .0, c .before .before .before .before .before .before .before .before .before .if1 .left))
-          (ap (λ (m : Machine). state m (i .last .1 .0) (i .last .1 .1 .0)) (sym (i .ensures .1 (c .if2 .left))) ∙ i .ensures .0),
+          (omega (arith, l .inv .0, at .if1 .left))
+          (issue-untouched _ (state (turn .result .machine) (l .registers) (l .memory)) _ _ (i .ensures .0) _ (i .ensures .1)
+          (c .if2 .left)),
     )
+
+add-made : tie.Need-add-made Inv-loop μ-loop
+add-made c =
+    let at = c .before .before .before .before .before .before .before .before in
+    let l = at .before .before .before .before .before .before .loop in
+    let start = at .before .before .before .before .before .before .before .before .before .before in
+    omega (arith, start .fits .budget, l .inv .0, at .if1 .left)
+
+loop-less : tie.Need-loop-less Inv-loop μ-loop
+loop-less c =
+    let at = c .before .before .before .before .before .before .before .before .before in
+    omega (arith, at .before .before .before .before .before .before .loop .inv .0, at .if1 .left)
 
 pub make-stretch-spec : {M : Type 1} → statement M
 make-stretch-spec =
@@ -112,9 +128,9 @@ make-stretch-spec =
     (λ c. search needs)
     returns-2
     (λ c κs. search needs)
-    (λ c. omega (arith, c .before .before .before .before .before .before .before .before .before .before .before .before .before .before .before .before .before .before .fits .budget, c .before .before .before .before .before .before .before .before .before .before .before .before .before .before .loop .inv .0, c .before .before .before .before .before .before .before .before .if1 .left))
+    add-made
     (λ c. search needs)
     (λ c. search needs)
     returns-3
-    (λ c. omega (arith, c .before .before .before .before .before .before .before .before .before .before .before .before .before .before .before .loop .inv .0, c .before .before .before .before .before .before .before .before .before .if1 .left))
+    loop-less
     loop-again)
