@@ -4,3 +4,4 @@ pub mod Complement
 pub mod Counts
 pub mod Signs
 pub mod Signed
+pub mod Unsigned

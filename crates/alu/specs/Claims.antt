@@ -1,9 +1,11 @@
 -- What is proved of the definitions.
-use Prim.Native.Nat.{ℕ, _<_, _%_, _^_}
+use Prim.Native.Nat.{ℕ, _<_, _≤_, _%_, _^_}
+use mathlib.Core.Bool.{true}
+use mathlib.Core.Logic.{_↔_}
 use mathlib.Core.Path.{_≡_}
 use lib.IntN.{_*ℤ_}
 use lib.Signed.{ltZ, leZ, shrZ}
-use Rattle.alu.specs.Types.{Mulhi, Ashr, Sext8, Sext16, Gt, Ge, Lt, Le}
+use Rattle.alu.specs.Types.{Mulhi, Ashr, Clz, Ctz, Sext8, Sext16, Eq, Ne, Gt, Ge, Lt, Le, Ugt, Uge, Ult, Ule}
 use Rattle.alu.specs.Word.{value}
 use Rattle.alu.specs.Binary.{binary, distance}
 use Rattle.alu.specs.Unary.{unary}
@@ -16,6 +18,10 @@ MulhiIsSigned = (x y : ℕ) → x < 2 ^ 32 → y < 2 ^ 32 → value 32 (binary M
 -- "9 ashr": the signed number, divided by a power of two and rounded down
 abbrev pub AshrIsSigned : Type 0
 AshrIsSigned = (x y : ℕ) → x < 2 ^ 32 → value 32 (binary Ashr x y) ≡ shrZ (value 32 x) (2 ^ distance y)
+
+-- "12 clz, 13 ctz (both 32 for zero)"
+unfoldable pub CountsOfZero : Type 0
+CountsOfZero = (unary Clz 0 ≡ 32) × (unary Ctz 0 ≡ 32)
 
 -- "43 sext8, 44 sext16": the signed number of the low bits
 abbrev pub Sext8IsSigned : Type 0
@@ -33,3 +39,15 @@ pub record ComparesAreSigned (x y : ℕ) : Type 0 where
 
 abbrev pub SignedOrder : Type 0
 SignedOrder = (x y : ℕ) → x < 2 ^ 32 → y < 2 ^ 32 → ComparesAreSigned x y
+
+-- "14 cmpeq, 15 cmpne, .. unsigned 20 cmpugt, 21 cmpuge, 22 cmpult, 23 cmpule": the numbers as they are
+pub record ComparesAreUnsigned (x y : ℕ) : Type 0 where
+  pub eq : (compare Eq x y ≡ true) ↔ (x ≡ y)
+  pub ne : (compare Ne x y ≡ true) ↔ (x ≡ y → ⊥)
+  pub ugt : (compare Ugt x y ≡ true) ↔ (y < x)
+  pub uge : (compare Uge x y ≡ true) ↔ (y ≤ x)
+  pub ult : (compare Ult x y ≡ true) ↔ (x < y)
+  pub ule : (compare Ule x y ≡ true) ↔ (x ≤ y)
+
+abbrev pub UnsignedOrder : Type 0
+UnsignedOrder = (x y : ℕ) → ComparesAreUnsigned x y

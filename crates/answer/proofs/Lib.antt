@@ -1,2 +1,3 @@
--- The laws that several proofs cite.
+-- The laws that several proofs cite, and the proofs of the claims.
 pub mod Lengths
+pub mod Claims

@@ -2,3 +2,4 @@
 pub mod Answer
 pub mod Refusal
 pub mod Left
+pub mod Claims

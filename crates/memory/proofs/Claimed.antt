@@ -14,9 +14,9 @@ use Rattle.vector.proofs.Filling.{tab-length}
 use Rattle.alu.proofs.Signed.{value-positive, value-negative}
 use Rattle.memory.specs.Place.{lifted, place}
 use Rattle.memory.specs.Attempt.{Attempt, done, trap}
-use Rattle.memory.specs.Bytes.{withNumber}
-use Rattle.memory.specs.Operation.{bytesStored, scalarPlace, vectorPlace, changed, store, each, withLanes, storeLanes, lanesAt, gathered, loadLanes}
-use Rattle.memory.specs.Claims.{AddressIsSum, Figures, Lengths}
+use Rattle.memory.specs.Bytes.{numberAt, withNumber}
+use Rattle.memory.specs.Operation.{bytesStored, scalarPlace, vectorPlace, changed, load, store, each, withLanes, storeLanes, lanesAt, gathered, loadLanes}
+use Rattle.memory.specs.Claims.{AddressIsSum, Figures, Rows, Lengths}
 
 -- two differences that are the same
 same-difference : (a b c d : ℕ) → a + d ≡ c + b → subℕ a b ≡ subℕ c d
@@ -31,7 +31,7 @@ same-difference a b c d e = go (ltb a b) refl
         rw (f, le-ltb c d (omega arith)) (ap pos (omega arith))
 
 pub address-is-sum : AddressIsSum
-address-is-sum base offset hb ho = go (leb (2 ^ 31) offset) refl
+address-is-sum base offset ho = go (leb (2 ^ 31) offset) refl
   where
     go : (t : Bool) → leb (2 ^ 31) offset ≡ t → subℕ (lifted base offset) (2 ^ 32) ≡ pos base +ℤ value 32 offset
     go true e =
@@ -46,9 +46,13 @@ pub figures-hold : Figures
 unfolding place
 figures-hold = (refl, (refl, (refl, (refl, (refl, (refl, tt))))))
 
+pub rows-hold : Rows
+unfolding load store place numberAt withNumber
+rows-hold = record { loaded = refl; signed = refl; unsigned = refl; stored = refl }
+
 -- ---- lengths
 
-kept-number : (n : ℕ) (m : List ℕ) (a w : ℕ) → length (withNumber n m a w) ≡ length m
+pub kept-number : (n : ℕ) (m : List ℕ) (a w : ℕ) → length (withNumber n m a w) ≡ length m
 unfolding withNumber
 kept-number zero m a w = refl
 kept-number (suc n) m a w = kept-number n (set m a (w % 2 ^ 8)) (a + 1) (w / 2 ^ 8) ∙ length-set m a (w % 2 ^ 8)
@@ -58,7 +62,7 @@ unfolding each
 kept-each zero g m h = refl
 kept-each (suc n) g m h = h n (each n g m) ∙ kept-each n g m h
 
-kept-if : (t : Bool) (l m : List ℕ) → length l ≡ length m → length (cond t l m) ≡ length m
+pub kept-if : (t : Bool) (l m : List ℕ) → length l ≡ length m → length (cond t l m) ≡ length m
 kept-if true l m h = h
 kept-if false l m h = refl
 

@@ -2,3 +2,4 @@
 pub mod Places
 pub mod Stepping
 pub mod Claimed
+pub mod Back

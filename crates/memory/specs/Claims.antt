@@ -1,18 +1,21 @@
 -- What is proved of the definitions.
-use Prim.Native.Nat.{ℕ, _-_, _<_, _^_}
+use Prim.Native.Nat.{ℕ, _-_, _%_, _<_, _^_}
+use mathlib.Core.Bool.{cond}
 use mathlib.Core.Path.{_≡_}
 use mathlib.Core.List.{List, [], _∷_}
 use lib.IntN.{pos, subℕ, _+ℤ_}
 use lib.ListN.{length}
+use Rattle.alu.specs.Unary.{unary}
 use Rattle.alu.specs.Word.{value}
-use Rattle.memory.specs.Types.{Load32, StoreOp}
+use Rattle.vector.specs.Lanes.{lane, isOn}
+use Rattle.memory.specs.Types.{LoadOp, Load8, Load16, Load32, Load8u, Load16u, StoreOp, Store8, Store16, Store32, Sext8, Sext16}
 use Rattle.memory.specs.Attempt.{Attempt, done, trap, misaligned, outside}
 use Rattle.memory.specs.Place.{lifted, place}
-use Rattle.memory.specs.Operation.{bytesLoaded, store, storeLanes, loadLanes}
+use Rattle.memory.specs.Operation.{bytesLoaded, load, store, storeLanes, loadLanes}
 
 -- "Address is base, read unsigned, plus offset and does not wrap.": the address, less what it is held with, is the signed sum.
 abbrev pub AddressIsSum : Type 0
-AddressIsSum = (base offset : ℕ) → base < 2 ^ 32 → offset < 2 ^ 32 → subℕ (lifted base offset) (2 ^ 32) ≡ pos base +ℤ value 32 offset
+AddressIsSum = (base offset : ℕ) → offset < 2 ^ 32 → subℕ (lifted base offset) (2 ^ 32) ≡ pos base +ℤ value 32 offset
 
 -- "Memory 64, load32: address 60 good, 62 reason 1, 64 and -4 reason 2, base 0xFFFFFFFC plus 4 reason 2."
 pub record Row : Type 0 where
@@ -40,3 +43,34 @@ pub record Lengths : Type 0 where
   pub of-store : (op : StoreOp) (m : List ℕ) (base offset value : ℕ) → length (store op m base offset value .memory) ≡ length m
   pub of-store-lanes : (m : List ℕ) (base offset mask : ℕ) (v : List ℕ) → length (storeLanes m base offset mask v .memory) ≡ length m
   pub of-load-lanes : (m : List ℕ) (base offset : ℕ) → length (loadLanes m base offset .lanes) ≡ 16
+
+-- "Little endian.", "load16 (sign kept)", "load16u", "store16": computed on memories of four bytes
+pub record Rows : Type 0 where
+  pub loaded : load Load32 (0x78 ∷ 0x56 ∷ 0x34 ∷ 0x12 ∷ []) 0 0 ≡ done 0x12345678
+  pub signed : load Load16 (0x78 ∷ 0x56 ∷ 0xFE ∷ 0xFF ∷ []) 0 2 ≡ done 0xFFFFFFFE
+  pub unsigned : load Load16u (0x78 ∷ 0x56 ∷ 0xFE ∷ 0xFF ∷ []) 0 2 ≡ done 0x0000FFFE
+  pub stored : store Store16 (1 ∷ 2 ∷ 3 ∷ 4 ∷ []) 0 2 0x12345678 .memory ≡ 1 ∷ 2 ∷ 0x78 ∷ 0x56 ∷ []
+
+-- A load after a store.
+
+-- if the store is done, the load at the same address gives r
+abbrev pub Gives : StoreOp → LoadOp → List ℕ → ℕ → ℕ → ℕ → ℕ → Type 0
+Gives s l m base offset v r = store s m base offset v .answer ≡ done tt → load l (store s m base offset v .memory) base offset ≡ done r
+
+-- "0 load8, 1 load16 (sign kept), 2 load32, 4 load8u, 5 load16u", "32 store8, 33 store16, 34 store32": the value stored, as far as its bytes hold it
+pub record LoadsBack (m : List ℕ) (base offset v : ℕ) : Type 0 where
+  pub signed8 : Gives Store8 Load8 m base offset v (unary Sext8 v)
+  pub signed16 : Gives Store16 Load16 m base offset v (unary Sext16 v)
+  pub whole : v < 2 ^ 32 → Gives Store32 Load32 m base offset v v
+  pub unsigned8 : Gives Store8 Load8u m base offset v (v % 2 ^ 8)
+  pub unsigned16 : Gives Store16 Load16u m base offset v (v % 2 ^ 16)
+
+abbrev pub LoadAfterStore : Type 0
+LoadAfterStore = (m : List ℕ) (base offset v : ℕ) → LoadsBack m base offset v
+
+-- "Vector forms touch lanes that are on": lane j loaded after a vector store is the one stored where it is on, and else the one that was there
+abbrev pub LanesAfterStore : Type 0
+LanesAfterStore = (m : List ℕ) (base offset mask : ℕ) (v : List ℕ) (j : ℕ) → storeLanes m base offset mask v .answer ≡ done tt
+    → j < 16 → lane v j < 2 ^ 32
+    → lane (loadLanes (storeLanes m base offset mask v .memory) base offset .lanes) j
+    ≡ cond (isOn mask j) (lane v j) (lane (loadLanes m base offset .lanes) j)
