@@ -1,6 +1,16 @@
 -- Demand 3 and the claims of specs/, proved.
 pub use Rattle.interpreter.proofs.Starts.{starts, start-rooms}
-pub use Rattle.interpreter.proofs.Runs.{stays-well-formed, mask-stays, lengths-stay, within-budget, spends-budget, joins}
+pub use Rattle.interpreter.proofs.Runs.{
+  stays-well-formed,
+  mask-stays,
+  lengths-stay,
+  within-budget,
+  spends-budget,
+  joins,
+  answers-number,
+  taken-well-formed,
+  no-budget,
+}
 pub use Rattle.interpreter.proofs.Endings.{ends-by-record}
-pub use Rattle.interpreter.proofs.Fairness.{some-enabled, demand}
+pub use Rattle.interpreter.proofs.Fairness.{some-enabled, eight-at-most, turns-fair, demand}
 pub use Rattle.interpreter.proofs.Figures.{figures-hold}

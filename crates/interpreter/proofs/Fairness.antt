@@ -13,17 +13,17 @@ use Rattle.machine.specs.State.{State}
 use Rattle.machine.proofs.Claims.{tested, enabled, chooses}
 use Rattle.machine.proofs.Tests.{never}
 use Rattle.machine.specs.Claims.{FirstAfterLast}
-use Rattle.machine.specs.Machine.{bit}
+use Rattle.machine.specs.Machine.{bit, countThreads}
 use Rattle.machine.specs.Scheduler.{runs, after, choice}
 use Rattle.machine.specs.WellFormed.{wellFormed}
 use Rattle.interpreter.specs.Choosing.{Issue, ifChosen, issued, issues, reached}
-use Rattle.interpreter.specs.Claims.{SomeEnabled}
-use Rattle.interpreter.specs.Demand.{Call, Session, written, Reports, isEnabled, DemandHolds}
+use Rattle.interpreter.specs.Claims.{SomeEnabled, EightAtMost, Begun, RecordHandedOn, issuesOf, TurnsFair}
+use Rattle.interpreter.specs.Demand.{Call, Session, written, Reports, isEnabled, Fair, DemandHolds}
 use Rattle.answer.specs.Refusal.{refusedOr}
 use Rattle.interpreter.specs.Run.{Outcome, number, runIssues, runReached, run}
 use Rattle.interpreter.specs.Types.{Machine, Choice, Chosen, NoneRunning}
 use Rattle.interpreter.proofs.Issuing.{chosen-thread, issued-sound, issued-well-formed, reached-nothing, reached-one-more}
-use Rattle.interpreter.proofs.RoundRobin.{distance, distance-range, distance-at, distance-of, some-counted, IssueInTurn, Row, row-after, row-front, within, share, even}
+use Rattle.interpreter.proofs.RoundRobin.{distance, distance-range, distance-at, distance-of, some-counted, all-counted, IssueInTurn, Row, row-after, row-front, within, share, even}
 
 -- the thread chosen is at most as far from "last" as any that is running
 chosen-first : (m : Machine) (t d : ℕ) → m .last < 8 → choice m ≡ Chosen t d → (u : ℕ) → u < 8 → runs m u ≡ true
@@ -45,7 +45,7 @@ module _ (mask : ℕ) (p : List ℕ) (s : State) (f : Fit mask (s .machine)) (t 
   fit-issued : Fit mask (issued p s t .machine)
   fit-issued = record { mask-stays = issued-sound p s t .enabled ∙ f .mask-stays; well-formed = issued-well-formed p s t d h (f .well-formed) }
 
-  turn : IssueInTurn (isEnabled mask) s (record { before = s; thread = t }) (issued p s t)
+  turn : IssueInTurn (isEnabled mask) (s .machine) (record { before = s; thread = t }) (issued p s t .machine)
   turn =
       let m = s .machine in
       let w = tested m .0 (f .well-formed) in
@@ -65,37 +65,85 @@ module _ (mask : ℕ) (p : List ℕ) (s : State) (f : Fit mask (s .machine)) (t 
 module _ (mask : ℕ) where
   -- the issues of one run, and a row of others behind them
   run-row : (p : List ℕ) (b : ℕ) (s : State) (rest : List Issue) → Fit mask (s .machine)
-      → (Fit mask (reached p b s .machine) → Row (isEnabled mask) (reached p b s) rest) → Row (isEnabled mask) s (issues p b s ++ rest)
+      → (Fit mask (reached p b s .machine) → Row (isEnabled mask) (reached p b s .machine) rest)
+      → Row (isEnabled mask) (s .machine) (issues p b s ++ rest)
   unfolding issues
-  run-row p zero s rest f k = subst (λ x. Row (isEnabled mask) x rest) (reached-nothing p s) (k (rw (reached-nothing p s) f))
+  run-row p zero s rest f k = subst (λ x. Row (isEnabled mask) (x .machine) rest) (reached-nothing p s) (k (rw (reached-nothing p s) f))
   run-row p (suc b) s rest f k =
       go (choice (s .machine)) refl (λ t. run-row p b (issued p s t) rest)
-      (subst (λ x. Fit mask (x .machine) → Row (isEnabled mask) x rest) (reached-one-more p s b) k)
+      (subst (λ x. Fit mask (x .machine) → Row (isEnabled mask) (x .machine) rest) (reached-one-more p s b) k)
     where
       go : (c : Choice) → choice (s .machine) ≡ c
-          → ((t : ℕ) → Fit mask (issued p s t .machine) → (Fit mask (reached p b (issued p s t) .machine) → Row (isEnabled mask) (reached p b (issued p s t)) rest)
-          → Row (isEnabled mask) (issued p s t) (issues p b (issued p s t) ++ rest))
-          → (Fit mask (ifChosen c (λ t. reached p b (issued p s t)) s .machine) → Row (isEnabled mask) (ifChosen c (λ t. reached p b (issued p s t)) s) rest)
-          → Row (isEnabled mask) s (ifChosen c (λ t. record { before = s; thread = t } ∷ issues p b (issued p s t)) [] ++ rest)
-      go (Chosen t d) h more k = (issued p s t, turn mask p s f t d h, more t (fit-issued mask p s f t d h) k)
+          → ((t : ℕ) → Fit mask (issued p s t .machine)
+          → (Fit mask (reached p b (issued p s t) .machine) → Row (isEnabled mask) (reached p b (issued p s t) .machine) rest)
+          → Row (isEnabled mask) (issued p s t .machine) (issues p b (issued p s t) ++ rest))
+          → (Fit mask (ifChosen c (λ t. reached p b (issued p s t)) s .machine)
+          → Row (isEnabled mask) (ifChosen c (λ t. reached p b (issued p s t)) s .machine) rest)
+          → Row (isEnabled mask) (s .machine) (ifChosen c (λ t. record { before = s; thread = t } ∷ issues p b (issued p s t)) [] ++ rest)
+      go (Chosen t d) h more k = (issued p s t .machine, turn mask p s f t d h, more t (fit-issued mask p s f t d h) k)
       go NoneRunning h more k = k f
 
-  -- the issues of a list of runs
-  written-row : (calls : List Call) (s : State) → Fit mask (s .machine) → Row (isEnabled mask) s (written calls s)
-  unfolding written runIssues runReached
-  written-row [] s f = tt
-  written-row (c ∷ cs) s f = go (number (c .program) s) (λ s′. written-row cs s′)
+  -- the issues of runs of which each has the record of the one before it
+  runs-row : (rs : List Begun) (m : Machine) → Fit mask m → RecordHandedOn rs m → Row (isEnabled mask) m (issuesOf rs)
+  unfolding issuesOf runIssues runReached
+  runs-row [] m f k = tt
+  runs-row (r ∷ rs) m f k =
+      rw (← k .0) (go (number p s) (λ m′. runs-row rs m′) (k .1))
     where
       p : List ℕ
-      p = c .program
+      p = r .program
 
       b : ℕ
-      b = c .budget
+      b = r .budget
 
-      go : (o : Option ℕ) → ((s′ : State) → Fit mask (s′ .machine) → Row (isEnabled mask) s′ (written cs s′))
-          → Row (isEnabled mask) s (refusedOr o (λ n. []) (issues p b s) ++ written cs (refusedOr o (λ n. s) (reached p b s)))
-      go none rest = run-row p b s (written cs (reached p b s)) f (rest (reached p b s))
-      go (some n) rest = rest s f
+      s : State
+      s = r .from
+
+      g : Fit mask (s .machine)
+      g = rw (k .0) f
+
+      go : (o : Option ℕ) → ((m′ : Machine) → Fit mask m′ → RecordHandedOn rs m′ → Row (isEnabled mask) m′ (issuesOf rs))
+          → RecordHandedOn rs (refusedOr o (λ n. s) (reached p b s) .machine)
+          → Row (isEnabled mask) (s .machine) (refusedOr o (λ n. []) (issues p b s) ++ issuesOf rs)
+      go none rest h = run-row p b s (issuesOf rs) g (λ x. rest (reached p b s .machine) x h)
+      go (some n) rest h = rest (s .machine) g h
+
+-- the turns in a row are fair
+row-fair : (mask : ℕ) (m : Machine) (all : List Issue) → Row (isEnabled mask) m all → Fair all (countThreads (isEnabled mask))
+row-fair mask m all row =
+    let on = isEnabled mask in
+    record {
+      within = λ before i after e t h l.
+          let r = row-after on m before (i ∷ after) (rw e at row) in
+          within on (r .0) i after (r .1) t h l;
+      share = λ before w after e t h.
+          let r = row-after on m before (w ++ after) (rw e at row) in
+          share on (r .0) w (row-front on (r .0) w after (r .1)) t h;
+      even = λ before w after e t u h k.
+          let r = row-after on m before (w ++ after) (rw e at row) in
+          let q = row-front on (r .0) w after (r .1) in
+          (even on (r .0) w q t u h k, even on (r .0) w q u t k h);
+    }
+
+pub turns-fair : TurnsFair
+turns-fair rs m w k =
+    row-fair (m .enabled) m (issuesOf rs) (runs-row (m .enabled) rs m (record { mask-stays = refl; well-formed = w }) k)
+
+-- the runs of a list of calls, of which each begins from the state reached
+begun : List Call → State → List Begun
+begun [] s = []
+begun (c ∷ cs) s = record { program = c .program; budget = c .budget; from = s } ∷ begun cs (runReached (c .program) (c .budget) s)
+
+begun-handed : (calls : List Call) (s : State) → RecordHandedOn (begun calls s) (s .machine)
+unfolding begun
+begun-handed [] s = tt
+begun-handed (c ∷ cs) s = (refl, begun-handed cs (runReached (c .program) (c .budget) s))
+
+begun-issues : (calls : List Call) (s : State) → issuesOf (begun calls s) ≡ written calls s
+unfolding begun issuesOf written
+begun-issues [] s = refl
+begun-issues (c ∷ cs) s =
+    ap (λ is. runIssues (c .program) (c .budget) s ++ is) (begun-issues cs (runReached (c .program) (c .budget) s))
 
 reports : (calls : List Call) (s : State) → Session calls s → Reports calls s
 unfolding run
@@ -124,21 +172,12 @@ some-enabled m w =
     let b = set-bit 8 (m .enabled) (r .0) (omega (arith, r .1)) in
     some-counted (isEnabled (m .enabled)) (b .0) (b .1) (eq-eqb _ _ (b .2))
 
+pub eight-at-most : EightAtMost
+eight-at-most m = all-counted (isEnabled (m .enabled))
+
 pub demand : DemandHolds
 demand calls s w session =
-    let mask = s .machine .enabled in
-    let on = isEnabled mask in
-    let row = written-row mask calls s (record { mask-stays = refl; well-formed = w }) in
     record {
       reports = reports calls s session;
-      within = λ before i after e t h l.
-          let r = row-after on s before (i ∷ after) (rw e at row) in
-          within on (r .0) i after (r .1) t h l;
-      share = λ before w after e t h.
-          let r = row-after on s before (w ++ after) (rw e at row) in
-          share on (r .0) w (row-front on (r .0) w after (r .1)) t h;
-      even = λ before w after e t u h k.
-          let r = row-after on s before (w ++ after) (rw e at row) in
-          let q = row-front on (r .0) w after (r .1) in
-          (even on (r .0) w q t u h k, even on (r .0) w q u t k h);
+      turns = rw (begun-issues calls s) at (turns-fair (begun calls s) (s .machine) w (begun-handed calls s));
     }

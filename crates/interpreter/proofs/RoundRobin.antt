@@ -10,12 +10,12 @@ use native.Mathlib.Omega.{arith}
 use borrow.Author.Tests.{eq-eqb, ne-eqb}
 use lib.Dec.{eqb}
 use lib.ListN.{length, take, drop, length-drop}
-use Rattle.machine.specs.State.{State}
 use Rattle.machine.specs.Machine.{countThreads}
 use Rattle.machine.specs.Scheduler.{runs}
 use Rattle.machine.specs.Search.{count}
 use Rattle.interpreter.specs.Choosing.{Issue}
 use Rattle.interpreter.specs.Demand.{RunningBefore, RunningBeforeEach, made}
+use Rattle.interpreter.specs.Types.{Machine}
 
 -- Distances.
 
@@ -141,6 +141,19 @@ module _ (p : ℕ → Bool) where
       let b = way-most 7 (distance 7 t) (omega arith) (r .1) in
       omega arith
 
+  -- and no more than all
+  way-short : (l d : ℕ) → onTheWay p l d ≤ d
+  unfolding onTheWay
+  way-short l zero = omega arith
+  way-short l (suc d) = go (p ((l + suc d) % 8)) (way-short l d)
+    where
+      go : (b : Bool) → onTheWay p l d ≤ d → onTheWay p l d + cond b 1 0 ≤ suc d
+      go true h = omega arith
+      go false h = omega arith
+
+  pub all-counted : countThreads p ≤ 8
+  all-counted = omega (arith, way-short 7 8, round-all)
+
   -- fewer are on the way to t once one of them is "last"
   closer : (l w t : ℕ) → l < 8 → w < 8 → t < 8 → (w ≡ t → ⊥) → distance l w ≤ distance l t → p w ≡ true
       → onTheWay p w (distance w t) < onTheWay p l (distance l t)
@@ -150,22 +163,22 @@ module _ (p : ℕ → Bool) where
       rw (distance-at l w a b) at (rw e at (way-add l (distance l w) (distance w t))) in
       omega (arith, f, way-one l (distance l w) w (distance-range l w .0) (distance-at l w a b) g)
 
--- Issues in a row.
+-- Issues in a row. Only the record counts: who else writes the register room or memory between two of them does not matter.
 
--- what is so of an issue i that leads from s to the state next, where the threads that pass the test are enabled
-pub record IssueInTurn (on : ℕ → Bool) (s : State) (i : Issue) (next : State) : Type 0 where
-  pub before : i .before ≡ s
-  pub last : s .machine .last < 8
+-- what is so of an issue i that leads from the record m to the record next, where the threads that pass the test are enabled
+pub record IssueInTurn (on : ℕ → Bool) (m : Machine) (i : Issue) (next : Machine) : Type 0 where
+  pub before : i .before .machine ≡ m
+  pub last : m .last < 8
   pub thread : i .thread < 8
-  pub running : runs (s .machine) (i .thread) ≡ true
-  pub enabled : (t : ℕ) → runs (s .machine) t ≡ true → (t < 8) × (on t ≡ true)
-  pub first : (t : ℕ) → runs (s .machine) t ≡ true → distance (s .machine .last) (i .thread) ≤ distance (s .machine .last) t
-  pub becomes-last : next .machine .last ≡ i .thread
-  pub stays : (t : ℕ) → runs (s .machine) t ≡ true → (i .thread ≡ t → ⊥) → runs (next .machine) t ≡ true
+  pub running : runs m (i .thread) ≡ true
+  pub enabled : (t : ℕ) → runs m t ≡ true → (t < 8) × (on t ≡ true)
+  pub first : (t : ℕ) → runs m t ≡ true → distance (m .last) (i .thread) ≤ distance (m .last) t
+  pub becomes-last : next .last ≡ i .thread
+  pub stays : (t : ℕ) → runs m t ≡ true → (i .thread ≡ t → ⊥) → runs next t ≡ true
 
-abbrev pub Row : (ℕ → Bool) → State → List Issue → Type 0
-Row on s [] = Unit {0}
-Row on s (i ∷ is) = (next : State) × IssueInTurn on s i next × Row on next is
+abbrev pub Row : (ℕ → Bool) → Machine → List Issue → Type 0
+Row on m [] = Unit {0}
+Row on m (i ∷ is) = (next : Machine) × IssueInTurn on m i next × Row on next is
 
 made-split : (t n : ℕ) (w : List Issue) → made t w ≡ made t (take n w) + made t (drop n w)
 made-split t zero w = omega arith
@@ -179,98 +192,98 @@ each-drop t (suc n) (i ∷ w) h = each-drop t n w (h .1)
 
 module _ (on : ℕ → Bool) where
   -- a part of a row is a row
-  pub row-after : (s : State) (a r : List Issue) → Row on s (a ++ r) → (s′ : State) × Row on s′ r
-  row-after s [] r c = (s, c)
-  row-after s (i ∷ a) r c = row-after (c .0) a r (c .2)
+  pub row-after : (m : Machine) (a r : List Issue) → Row on m (a ++ r) → (m′ : Machine) × Row on m′ r
+  row-after m [] r c = (m, c)
+  row-after m (i ∷ a) r c = row-after (c .0) a r (c .2)
 
-  pub row-front : (s : State) (w b : List Issue) → Row on s (w ++ b) → Row on s w
-  row-front s [] b c = tt
-  row-front s (i ∷ w) b c = (c .0, c .1, row-front (c .0) w b (c .2))
+  pub row-front : (m : Machine) (w b : List Issue) → Row on m (w ++ b) → Row on m w
+  row-front m [] b c = tt
+  row-front m (i ∷ w) b c = (c .0, c .1, row-front (c .0) w b (c .2))
 
-  row-drop : (n : ℕ) (s : State) (w : List Issue) → Row on s w → (s′ : State) × Row on s′ (drop n w)
-  row-drop zero s w c = (s, c)
-  row-drop (suc n) s [] c = (s, tt)
-  row-drop (suc n) s (i ∷ w) c = row-drop n (c .0) w (c .2)
+  row-drop : (n : ℕ) (m : Machine) (w : List Issue) → Row on m w → (m′ : Machine) × Row on m′ (drop n w)
+  row-drop zero m w c = (m, c)
+  row-drop (suc n) m [] c = (m, tt)
+  row-drop (suc n) m (i ∷ w) c = row-drop n (c .0) w (c .2)
 
-  running-in : (s : State) (i : Issue) (next : State) (t : ℕ) → IssueInTurn on s i next → RunningBefore t i → runs (s .machine) t ≡ true
-  running-in s i next t q h = ap (λ z. runs (z .machine) t) (sym (q .before)) ∙ h
+  running-in : (m : Machine) (i : Issue) (next : Machine) (t : ℕ) → IssueInTurn on m i next → RunningBefore t i → runs m t ≡ true
+  running-in m i next t q h = ap (λ z. runs z t) (sym (q .before)) ∙ h
 
   -- a thread is issued within as many issues as enabled threads are on the way to it
-  soon : (t : ℕ) → t < 8 → on t ≡ true → (n : ℕ) (s : State) (r : List Issue) → s .machine .last < 8 → runs (s .machine) t ≡ true
-      → Row on s r → onTheWay on (s .machine .last) (distance (s .machine .last) t) ≤ n → n ≤ length r → 1 ≤ made t (take n r)
-  soon t b g zero s r l h c m k =
-      let x = s .machine .last in
+  soon : (t : ℕ) → t < 8 → on t ≡ true → (n : ℕ) (m : Machine) (r : List Issue) → m .last < 8 → runs m t ≡ true
+      → Row on m r → onTheWay on (m .last) (distance (m .last) t) ≤ n → n ≤ length r → 1 ≤ made t (take n r)
+  soon t b g zero m r l h c f k =
+      let x = m .last in
       absurd (omega (arith, way-one on x (distance x t) t (distance-range x t .0) (distance-at x t l b) g))
-  soon t b g (suc n) s [] l h c m k = absurd (omega arith)
-  soon t b g (suc n) s (i ∷ r) l h c m k = go (ℕ-discrete (i .thread) t) (soon t b g n (c .0) r)
+  soon t b g (suc n) m [] l h c f k = absurd (omega arith)
+  soon t b g (suc n) m (i ∷ r) l h c f k = go (ℕ-discrete (i .thread) t) (soon t b g n (c .0) r)
     where
       go : Dec (i .thread ≡ t)
-          → (c .0 .machine .last < 8 → runs (c .0 .machine) t ≡ true → Row on (c .0) r
-          → onTheWay on (c .0 .machine .last) (distance (c .0 .machine .last) t) ≤ n → n ≤ length r → 1 ≤ made t (take n r))
+          → (c .0 .last < 8 → runs (c .0) t ≡ true → Row on (c .0) r
+          → onTheWay on (c .0 .last) (distance (c .0 .last) t) ≤ n → n ≤ length r → 1 ≤ made t (take n r))
           → 1 ≤ made t (take n r) + cond (eqb (i .thread) t) 1 0
       go (yes e) rest = rw (eq-eqb _ _ e) (omega arith)
       go (no e) rest =
           let q = c .1 in
-          let x : c .0 .machine .last ≡ i .thread = q .becomes-last in
-          let z : onTheWay on (i .thread) (distance (i .thread) t) < onTheWay on (s .machine .last) (distance (s .machine .last) t) =
-          closer on (s .machine .last) (i .thread) t l (q .thread) b e (q .first t h) (q .enabled (i .thread) (q .running) .1) in
-          let y : onTheWay on (c .0 .machine .last) (distance (c .0 .machine .last) t) ≤ n = rw x (omega arith) in
+          let x : c .0 .last ≡ i .thread = q .becomes-last in
+          let z : onTheWay on (i .thread) (distance (i .thread) t) < onTheWay on (m .last) (distance (m .last) t) =
+          closer on (m .last) (i .thread) t l (q .thread) b e (q .first t h) (q .enabled (i .thread) (q .running) .1) in
+          let y : onTheWay on (c .0 .last) (distance (c .0 .last) t) ≤ n = rw x (omega arith) in
           let v = rest (omega (arith, x, q .thread)) (q .stays t h e) (c .2) y (omega arith) in
           omega arith
 
   -- "A thread that is running before one of these issues is issued within E issues, that one counted first, if so many are left."
-  pub within : (s : State) (i : Issue) (r : List Issue) → Row on s (i ∷ r) → (t : ℕ) → RunningBefore t i → countThreads on ≤ length (i ∷ r)
+  pub within : (m : Machine) (i : Issue) (r : List Issue) → Row on m (i ∷ r) → (t : ℕ) → RunningBefore t i → countThreads on ≤ length (i ∷ r)
       → 1 ≤ made t (take (countThreads on) (i ∷ r))
-  within s i r c t h k =
+  within m i r c t h k =
       let q = c .1 in
-      let l = s .machine .last in
-      let g = running-in s i (c .0) t q h in
+      let l = m .last in
+      let g = running-in m i (c .0) t q h in
       let o = q .enabled t g in
-      soon t (o .0) (o .1) (countThreads on) s (i ∷ r) (q .last) g c (way-most on l (distance l t) (q .last) (distance-range l t .1)) k
+      soon t (o .0) (o .1) (countThreads on) m (i ∷ r) (q .last) g c (way-most on l (distance l t) (q .last) (distance-range l t .1)) k
 
   -- one issue in each E of them
-  shares : (t : ℕ) → 1 ≤ countThreads on → (q : ℕ) (s : State) (w : List Issue) → Row on s w → RunningBeforeEach t w → q * countThreads on ≤ length w
+  shares : (t : ℕ) → 1 ≤ countThreads on → (q : ℕ) (m : Machine) (w : List Issue) → Row on m w → RunningBeforeEach t w → q * countThreads on ≤ length w
       → q ≤ made t w
-  shares t o zero s w c h k = omega arith
-  shares t o (suc q) s [] c h k = absurd (omega (arith, suc-mul q (countThreads on)))
-  shares t o (suc q) s (i ∷ r) c h k =
+  shares t o zero m w c h k = omega arith
+  shares t o (suc q) m [] c h k = absurd (omega (arith, suc-mul q (countThreads on)))
+  shares t o (suc q) m (i ∷ r) c h k =
       let e = countThreads on in
       let w : List Issue = i ∷ r in
-      let m = suc-mul q e in
-      let a : 1 ≤ made t (take e w) = within s i r c t (h .0) (omega arith) in
-      let d = row-drop e s w c in
+      let p = suc-mul q e in
+      let a : 1 ≤ made t (take e w) = within m i r c t (h .0) (omega arith) in
+      let d = row-drop e m w c in
       let b : q ≤ made t (drop e w) = shares t o q (d .0) (drop e w) (d .1) (each-drop t e w h) (rw length-drop (omega arith)) in
       omega (arith, made-split t e w)
 
   -- "In any W issues in a row, a thread that was running before each of them makes at least W divided by E, rounded down."
-  pub share : (s : State) (w : List Issue) → Row on s w → (t : ℕ) → RunningBeforeEach t w → length w / countThreads on ≤ made t w
-  share s [] c t h = le-of-eq (zero-div (countThreads on))
-  share s (i ∷ r) c t h =
-      shares t (some-counted on (i .thread) (c .1 .thread) (c .1 .enabled (i .thread) (c .1 .running) .1)) (length (i ∷ r) / countThreads on) s (i ∷ r) c h (div-mul-le-self (length (i ∷ r)) (countThreads on))
+  pub share : (m : Machine) (w : List Issue) → Row on m w → (t : ℕ) → RunningBeforeEach t w → length w / countThreads on ≤ made t w
+  share m [] c t h = le-of-eq (zero-div (countThreads on))
+  share m (i ∷ r) c t h =
+      shares t (some-counted on (i .thread) (c .1 .thread) (c .1 .enabled (i .thread) (c .1 .running) .1)) (length (i ∷ r) / countThreads on) m (i ∷ r) c h (div-mul-le-self (length (i ∷ r)) (countThreads on))
 
   -- of two threads, the one that comes first makes as many as the other, or one more
-  evenly : (w : List Issue) (s : State) (t u : ℕ) → (t ≡ u → ⊥) → t < 8 → u < 8 → Row on s w → RunningBeforeEach t w → RunningBeforeEach u w
-      → distance (s .machine .last) t < distance (s .machine .last) u → (made u w ≤ made t w) × (made t w ≤ made u w + 1)
-  evenly [] s t u n a b c h k l = omega arith
-  evenly (i ∷ w) s t u n a b c h k l =
+  evenly : (w : List Issue) (m : Machine) (t u : ℕ) → (t ≡ u → ⊥) → t < 8 → u < 8 → Row on m w → RunningBeforeEach t w → RunningBeforeEach u w
+      → distance (m .last) t < distance (m .last) u → (made u w ≤ made t w) × (made t w ≤ made u w + 1)
+  evenly [] m t u n a b c h k l = omega arith
+  evenly (i ∷ w) m t u n a b c h k l =
       go (ℕ-discrete (i .thread) t)
       (evenly w (c .0) t u n a b (c .2) (h .1) (k .1))
       (evenly w (c .0) u t (λ e. n (sym e)) b a (c .2) (k .1) (h .1))
     where
       go : Dec (i .thread ≡ t)
-          → (distance (c .0 .machine .last) t < distance (c .0 .machine .last) u → (made u w ≤ made t w) × (made t w ≤ made u w + 1))
-          → (distance (c .0 .machine .last) u < distance (c .0 .machine .last) t → (made t w ≤ made u w) × (made u w ≤ made t w + 1))
+          → (distance (c .0 .last) t < distance (c .0 .last) u → (made u w ≤ made t w) × (made t w ≤ made u w + 1))
+          → (distance (c .0 .last) u < distance (c .0 .last) t → (made t w ≤ made u w) × (made u w ≤ made t w + 1))
           → (made u w + cond (eqb (i .thread) u) 1 0 ≤ made t w + cond (eqb (i .thread) t) 1 0)
           × (made t w + cond (eqb (i .thread) t) 1 0 ≤ made u w + cond (eqb (i .thread) u) 1 0 + 1)
       go (yes e) same other =
-          let x : c .0 .machine .last ≡ t = c .1 .becomes-last ∙ e in
+          let x : c .0 .last ≡ t = c .1 .becomes-last ∙ e in
           let z = other (rw x (distance-self t u a b n)) in
           rw (eq-eqb _ _ e, ne-eqb (i .thread) u (λ f. n (sym e ∙ f))) (omega arith)
       go (no e) same other =
           let q = c .1 in
-          let x = s .machine .last in
-          let y : c .0 .machine .last ≡ i .thread = q .becomes-last in
-          let f : distance x (i .thread) ≤ distance x t = q .first t (running-in s i (c .0) t q (h .0)) in
+          let x = m .last in
+          let y : c .0 .last ≡ i .thread = q .becomes-last in
+          let f : distance x (i .thread) ≤ distance x t = q .first t (running-in m i (c .0) t q (h .0)) in
           let v : i .thread ≡ u → ⊥ = λ g. let z : distance x (i .thread) ≡ distance x u = rw g in omega arith in
           let r1 = distance-split x (i .thread) t (q .last) (q .thread) a e f in
           let r2 = distance-split x (i .thread) u (q .last) (q .thread) b v (omega arith) in
@@ -278,23 +291,23 @@ module _ (on : ℕ → Bool) where
           rw (ne-eqb _ _ e, ne-eqb _ _ v) (omega arith)
 
   -- "Two such threads differ by at most one."
-  pub even : (s : State) (w : List Issue) → Row on s w → (t u : ℕ) → RunningBeforeEach t w → RunningBeforeEach u w → made t w ≤ made u w + 1
-  even s [] c t u h k = omega arith
-  even s (i ∷ w) c t u h k = go (ℕ-discrete t u) (decLt (distance l t) (distance l u))
+  pub even : (m : Machine) (w : List Issue) → Row on m w → (t u : ℕ) → RunningBeforeEach t w → RunningBeforeEach u w → made t w ≤ made u w + 1
+  even m [] c t u h k = omega arith
+  even m (i ∷ w) c t u h k = go (ℕ-discrete t u) (decLt (distance l t) (distance l u))
     where
       l : ℕ
-      l = s .machine .last
+      l = m .last
 
       t-enabled : (t < 8) × (on t ≡ true)
-      t-enabled = c .1 .enabled t (running-in s i (c .0) t (c .1) (h .0))
+      t-enabled = c .1 .enabled t (running-in m i (c .0) t (c .1) (h .0))
 
       u-enabled : (u < 8) × (on u ≡ true)
-      u-enabled = c .1 .enabled u (running-in s i (c .0) u (c .1) (k .0))
+      u-enabled = c .1 .enabled u (running-in m i (c .0) u (c .1) (k .0))
 
       go : Dec (t ≡ u) → Dec (distance l t < distance l u) → made t (i ∷ w) ≤ made u (i ∷ w) + 1
       go (yes e) d = rw e (omega arith)
-      go (no n) (yes d) = evenly (i ∷ w) s t u n (t-enabled .0) (u-enabled .0) c h k d .1
+      go (no n) (yes d) = evenly (i ∷ w) m t u n (t-enabled .0) (u-enabled .0) c h k d .1
       go (no n) (no d) =
           let f : distance l t ≡ distance l u → ⊥ = λ y. n (distance-apart l t u (c .1 .last) (t-enabled .0) (u-enabled .0) y) in
-          let z = evenly (i ∷ w) s u t (λ e. n (sym e)) (u-enabled .0) (t-enabled .0) c k h (omega arith) .0 in
+          let z = evenly (i ∷ w) m u t (λ e. n (sym e)) (u-enabled .0) (t-enabled .0) c k h (omega arith) .0 in
           omega arith

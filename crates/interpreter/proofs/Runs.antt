@@ -13,7 +13,7 @@ use Rattle.machine.specs.Scheduler.{choice, withLast, someWaits}
 use Rattle.machine.specs.WellFormed.{wellFormed}
 use Rattle.interpreter.specs.Answer.{stopped, stuck, spent}
 use Rattle.interpreter.specs.Choosing.{Issue, ifChosen, issued, issues, reached, idleEnding, endingAt}
-use Rattle.interpreter.specs.Claims.{StaysWellFormed, MaskStays, LengthsStay, WithinBudget, SpendsBudget, Joined, Joins}
+use Rattle.interpreter.specs.Claims.{StaysWellFormed, MaskStays, LengthsStay, WithinBudget, SpendsBudget, Joined, Joins, numberIn, AnswersNumber, TakenWellFormed, NoBudget}
 use Rattle.answer.specs.Refusal.{refusedOr}
 use Rattle.interpreter.specs.Run.{number, runIssues, runReached, runAnswer}
 use Rattle.interpreter.specs.Types.{Choice, Chosen, NoneRunning}
@@ -172,3 +172,24 @@ joins p n m s = go (number p s) refl
           answer = rw (e, f) (ap (λ x. given (endingAt x)) (reached-add p m n s));
         }
     go (some k) e = record { issues = rw (e, e); reached = rw (e, e); answer = rw (e, e) }
+
+-- A refusal, and no budget.
+
+pub answers-number : AnswersNumber
+unfolding runAnswer
+answers-number p b s = go (number p s)
+  where
+    go : (o : Option ℕ) → numberIn (refusedOr o refused (given (endingAt (reached p b s)))) ≡ o
+    go none = refl
+    go (some n) = refl
+
+pub taken-well-formed : TakenWellFormed
+taken-well-formed p s h = run-taken (length p) (length (s .registers)) (length (s .memory)) (s .machine) h .well-formed
+
+pub no-budget : NoBudget
+unfolding runReached
+no-budget p s = go (number p s)
+  where
+    go : (o : Option ℕ) → refusedOr o (λ n. s) (reached p 0 s) ≡ s
+    go none = reached-nothing p s
+    go (some n) = refl

@@ -1,18 +1,19 @@
 -- What is proved of the definitions, for other crates to cite.
 use Prim.Native.Nat.{ℕ, _+_, _<_, _≤_}
 use mathlib.Core.Bool.{Bool, true, false}
-use mathlib.Core.List.{List, _++_}
+use mathlib.Core.List.{List, [], _∷_, _++_}
 use mathlib.Core.Logic.{_↔_}
-use mathlib.Core.Option.{none}
+use mathlib.Core.Option.{Option, none, some}
 use mathlib.Core.Path.{_≡_}
 use lib.ListN.{length, getD}
-use Rattle.answer.specs.Answer.{Answer, given}
+use Rattle.answer.specs.Answer.{Answer, given, refused}
 use Rattle.answer.specs.Refusal.{roomWords}
 use Rattle.machine.specs.State.{State}
 use Rattle.machine.specs.Scheduler.{runs, waits}
 use Rattle.machine.specs.WellFormed.{wellFormed}
 use Rattle.interpreter.specs.Answer.{Ending, stopped, stuck, spent}
-use Rattle.interpreter.specs.Demand.{enabledThreads}
+use Rattle.interpreter.specs.Choosing.{Issue}
+use Rattle.interpreter.specs.Demand.{Fair, enabledThreads}
 use Rattle.interpreter.specs.Run.{number, runIssues, runReached, runAnswer}
 use Rattle.machine.specs.State.{scalarPlace}
 use Rattle.interpreter.specs.Start.{start}
@@ -47,6 +48,10 @@ MaskStays = (p : List ℕ) (b : ℕ) (s : State) → runReached p b s .machine .
 -- and in a well-formed record there is one, so that W divided by E means something
 abbrev pub SomeEnabled : Type 0
 SomeEnabled = (m : Machine) → wellFormed m ≡ true → 1 ≤ enabledThreads m
+
+-- and never more than the eight threads
+abbrev pub EightAtMost : Type 0
+EightAtMost = (m : Machine) → enabledThreads m ≤ 8
 
 -- no lent buffer changes its length
 abbrev pub LengthsStay : Type 0
@@ -86,3 +91,43 @@ pub record Joined (p : List ℕ) (n m : ℕ) (s : State) : Type 0 where
 
 abbrev pub Joins : Type 0
 Joins = (p : List ℕ) (n m : ℕ) (s : State) → Joined p n m s
+
+-- What a refusal tells, and a run with no budget.
+
+-- the number in an answer, if it is one
+abbrev pub numberIn : {A : Type 0} → Answer A → Option ℕ
+numberIn (given a) = none
+numberIn (refused n) = some n
+
+-- a run answers a number exactly if the table gives it one, and then that one: whatever its budget
+abbrev pub AnswersNumber : Type 0
+AnswersNumber = (p : List ℕ) (b : ℕ) (s : State) → numberIn (runAnswer p b s) ≡ number p s
+
+-- a run that the table gives no number begins with a well-formed record
+abbrev pub TakenWellFormed : Type 0
+TakenWellFormed = (p : List ℕ) (s : State) → number p s ≡ none → wellFormed (s .machine) ≡ true
+
+-- with a budget of 0 it changes nothing
+abbrev pub NoBudget : Type 0
+NoBudget = (p : List ℕ) (s : State) → runReached p 0 s ≡ s
+
+-- Runs between which somebody else writes the register room or memory: the turns stay fair all the same.
+
+-- a run, and the state that it begins from
+pub record Begun : Type 0 where
+  pub program : List ℕ
+  pub budget : ℕ
+  pub from : State
+
+-- each begins with the record that the one before it handed back; what else the machine holds may be anything
+abbrev pub RecordHandedOn : List Begun → Machine → Type 0
+RecordHandedOn [] m = Unit {0}
+RecordHandedOn (r ∷ rs) m = (r .from .machine ≡ m) × RecordHandedOn rs (runReached (r .program) (r .budget) (r .from) .machine)
+
+-- their issues, one after the other
+unfoldable pub issuesOf : List Begun → List Issue
+issuesOf [] = []
+issuesOf (r ∷ rs) = runIssues (r .program) (r .budget) (r .from) ++ issuesOf rs
+
+abbrev pub TurnsFair : Type 0
+TurnsFair = (rs : List Begun) (m : Machine) → wellFormed m ≡ true → RecordHandedOn rs m → Fair (issuesOf rs) (enabledThreads m)

@@ -9,7 +9,7 @@ use Rattle.machine.specs.State.{State}
 use Rattle.machine.specs.Machine.{bit, countThreads}
 use Rattle.machine.specs.Scheduler.{runs}
 use Rattle.machine.specs.WellFormed.{wellFormed}
-use Rattle.interpreter.specs.Choosing.{Issue}
+pub use Rattle.interpreter.specs.Choosing.{Issue}
 use Rattle.interpreter.specs.Run.{Outcome, runIssues, runReached, runAnswer, run}
 use Rattle.interpreter.specs.Types.{Machine}
 
@@ -63,20 +63,24 @@ isEnabled mask t = eqb (bit mask t) 1
 abbrev pub enabledThreads : Machine → ℕ
 enabledThreads m = countThreads (isEnabled (m .enabled))
 
+-- what is demanded of the turns in some issues, written down one after the other, where e threads are enabled
+pub record Fair (all : List Issue) (e : ℕ) : Type 0 where
+  -- "A thread that is running before one of these issues is issued within E issues, that one counted first, if so many are left."
+  pub within : (before : List Issue) (i : Issue) (after : List Issue) → all ≡ before ++ i ∷ after
+      → (t : ℕ) → RunningBefore t i → e ≤ length (i ∷ after) → 1 ≤ made t (take e (i ∷ after))
+  -- "In any W issues in a row, a thread that was running before each of them makes at least W divided by E, rounded down."
+  pub share : (before row after : List Issue) → all ≡ before ++ (row ++ after)
+      → (t : ℕ) → RunningBeforeEach t row → length row / e ≤ made t row
+  -- "Two such threads differ by at most one."
+  pub even : (before row after : List Issue) → all ≡ before ++ (row ++ after)
+      → (t u : ℕ) → RunningBeforeEach t row → RunningBeforeEach u row → (made t row ≤ made u row + 1) × (made u row ≤ made t row + 1)
+
 -- what is demanded of a list of calls from a state, of whose threads e are enabled
 pub record Demand (calls : List Call) (s : State) (e : ℕ) : Type 0 where
   -- "The number of issues each call reports is the number written down for it, and the machine it hands back or leaves is the one
   -- these issues reach."
   pub reports : Reports calls s
-  -- "A thread that is running before one of these issues is issued within E issues, that one counted first, if so many are left."
-  pub within : (before : List Issue) (i : Issue) (after : List Issue) → written calls s ≡ before ++ i ∷ after
-      → (t : ℕ) → RunningBefore t i → e ≤ length (i ∷ after) → 1 ≤ made t (take e (i ∷ after))
-  -- "In any W issues in a row, a thread that was running before each of them makes at least W divided by E, rounded down."
-  pub share : (before row after : List Issue) → written calls s ≡ before ++ (row ++ after)
-      → (t : ℕ) → RunningBeforeEach t row → length row / e ≤ made t row
-  -- "Two such threads differ by at most one."
-  pub even : (before row after : List Issue) → written calls s ≡ before ++ (row ++ after)
-      → (t u : ℕ) → RunningBeforeEach t row → RunningBeforeEach u row → (made t row ≤ made u row + 1) × (made u row ≤ made t row + 1)
+  pub turns : Fair (written calls s) e
 
 -- "This holds for every list of run calls from a well-formed state, refused calls included."
 -- "The list begins with any record that is well formed with its numbers in range, and any register room and memory, of any length."
