@@ -18,12 +18,12 @@ use Rattle.isa.proofs.RoundTrip.{exact}
 use Rattle.isa.proofs.Signed.{signed-cut}
 use Rattle.isa.proofs.Tables.{finds-R, finds-Movei, finds-J, finds-C, finds-M}
 use Rattle.isa.specs.Claims.{Exact}
-use Rattle.isa.specs.Layout.{Part, bits, width, split, cut, layoutR, layoutI, layoutMovei, layoutJ, layoutC, layoutM}
+use Rattle.isa.specs.Layout.{Part, bits, width, split, cut, signed, layoutR, layoutI, layoutMovei, layoutJ, layoutC, layoutM}
 use Rattle.isa.specs.Rule.{allowsI, allowsJ, allowsM}
 use Rattle.isa.specs.Table.{rowR, rowI, rowMovei, rowJ, rowC, rowM}
 use Rattle.isa.specs.Test.{all}
 use Rattle.isa.specs.Write.{write}
-use Rattle.fields.specs.Claims.{Owned, HasWord, Numbered, WordAgain, NumbersAgain}
+use Rattle.fields.specs.Claims.{Owned, HasWord, Numbered, WordAgain, NumbersAgain, Rows}
 use Rattle.fields.specs.Find.{Held, held, beside, written, wordFor}
 use Rattle.fields.specs.Instructions.{instructionNumbers, shaped, owned, instructionOf}
 use Rattle.fields.specs.Numbers.{splits, sameNumbers, reduced, filled, numbersOf, wordOf}
@@ -190,3 +190,7 @@ numbers-again n h e =
     let k = has-word n (h .word) (h .instruction) .0 e in
     let l = laid-numbers (h .instruction) (h .word) (k .1) in
     (exact (h .word) (h .instruction) (l .below) .1 (k .1), l .own ∙ sym (k .0))
+
+pub rows-hold : Rows
+unfolding numbersOf signed
+rows-hold = record { r = refl; i = refl; movei = refl; j = refl; c = refl; m = refl }

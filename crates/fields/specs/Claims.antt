@@ -8,7 +8,7 @@ use Rattle.isa.specs.Read.{read}
 use Rattle.isa.specs.Write.{write}
 use Rattle.fields.specs.Find.{Held, held, wordFor}
 use Rattle.fields.specs.Instructions.{instructionNumbers, instructionOf}
-use Rattle.fields.specs.Numbers.{numbersOf}
+use Rattle.fields.specs.Numbers.{numbers, numbersOf}
 use Rattle.fields.specs.Types.{Numbers, Instruction}
 
 -- Numbers are an instruction's exactly if they are found to be.
@@ -30,3 +30,13 @@ WordAgain = (w : ℕ) (i : Instruction) → w < 2 ^ 32 → read w ≡ given i �
 -- and numbers that are written and read are the numbers again.
 unfoldable pub NumbersAgain : Type 0
 NumbersAgain = (n : Numbers) (h : Held) → wordFor n ≡ given h → (read (h .word) ≡ given (h .instruction)) × (numbersOf (h .word) ≡ n)
+
+-- "0x040C1080 is add s3,s1,s2", "0x44041FF8 addi s1,s1,-1", "0x62060000 movei s1 ..", "0x78001000", "0x82081000 load32 s2,(s1)", and a jump
+-- by -4: their numbers, computed
+pub record Rows : Type 0 where
+  pub r : numbersOf 0x040C1080 ≡ numbers 0 4 0b000 3 1 2
+  pub i : numbersOf 0x44041FF8 ≡ numbers 1 4 0b00 1 1 0xFFFFFFFF
+  pub movei : numbersOf 0x62060000 ≡ numbers 2 2 0 1 0x8000 0
+  pub j : numbersOf 0x7003FFFC ≡ numbers 3 0 0 0 0xFFFFFFFC 0
+  pub c : numbersOf 0x78001000 ≡ numbers 4 0 0 0 1 0
+  pub m : numbersOf 0x82081000 ≡ numbers 5 2 0 2 1 0
