@@ -2,8 +2,10 @@
 use Prim.Native.Nat.{ℕ, _/_, _%_, _^_, _<_}
 use mathlib.Core.Bool.{Bool, true, false, cond}
 use mathlib.Core.List.{List, [], _∷_}
-use mathlib.Core.Path.{_≡_, refl, ap, _∙_}
+use mathlib.Core.Option.{Option, none, some}
+use mathlib.Core.Path.{_≡_, refl, ap, sym, _∙_}
 use native.Mathlib.Nat.{mod-eq-of-lt, mod-lt}
+use native.Mathlib.Omega.{arith}
 use lib.Dec.{eqb}
 use lib.Pow.{pow-pos}
 use borrow.Author.Tests.{eq-eqb, eqb-true}
@@ -14,15 +16,16 @@ use Rattle.isa.proofs.Formats.{is-R, is-I, is-Movei, is-J, is-C, is-M}
 use Rattle.isa.proofs.Parts.{covers, join-split}
 use Rattle.isa.proofs.RoundTrip.{exact}
 use Rattle.isa.proofs.Signed.{signed-cut}
+use Rattle.isa.proofs.Tables.{finds-R, finds-Movei, finds-J, finds-C, finds-M}
 use Rattle.isa.specs.Claims.{Exact}
-use Rattle.isa.specs.Layout.{Part, bits, width, split, cut, layoutR, layoutI, layoutMovei, layoutJ, layoutC, layoutM}
-use Rattle.isa.specs.Read.{read}
+use Rattle.isa.specs.Layout.{Part, bits, width, split, cut, signed, layoutR, layoutI, layoutMovei, layoutJ, layoutC, layoutM}
 use Rattle.isa.specs.Rule.{allowsI, allowsJ, allowsM}
 use Rattle.isa.specs.Table.{rowR, rowI, rowMovei, rowJ, rowC, rowM}
 use Rattle.isa.specs.Test.{all}
 use Rattle.isa.specs.Write.{write}
-use Rattle.fields.specs.Claims.{instructionNumbers, Numbered, WordAgain, Written, NumbersAgain}
-use Rattle.fields.specs.Find.{Held, held, matched, wordFor}
+use Rattle.fields.specs.Claims.{Owned, HasWord, Numbered, WordAgain, NumbersAgain, Rows}
+use Rattle.fields.specs.Find.{Held, held, beside, written, wordFor}
+use Rattle.fields.specs.Instructions.{instructionNumbers, shaped, owned, instructionOf}
 use Rattle.fields.specs.Numbers.{splits, sameNumbers, reduced, filled, numbersOf, wordOf}
 use Rattle.fields.specs.Types.{Numbers, Instruction, R, I, Movei, J, C, M}
 
@@ -39,47 +42,88 @@ cut-again : (m n : ℕ) → 0 < m → n % m % m ≡ n % m
 cut-again m n p = mod-eq-of-lt (mod-lt n p)
 
 -- What the word of an instruction says of its numbers, by format: they are the instruction's, and the word is filled again with them.
-laid-numbers : (i : Instruction) (w : ℕ) → w < 2 ^ 32 → write i ≡ given w → (numbersOf w ≡ instructionNumbers i) × (wordOf (instructionNumbers i) ≡ w)
+pub record Laid (i : Instruction) (w : ℕ) : Type 0 where
+  pub below : w < 2 ^ 32
+  pub own : numbersOf w ≡ instructionNumbers i
+  pub back : wordOf (instructionNumbers i) ≡ w
+
+pub laid-numbers : (i : Instruction) (w : ℕ) → write i ≡ given w → Laid i w
 unfolding write numbersOf wordOf
-laid-numbers (R op flags d a b) w u e =
+laid-numbers (R op flags d a b) w e =
     let l = laid-is layoutR refl (0b00 ∷ rowR op .opcode ∷ d ∷ a ∷ b ∷ 0 ∷ 0 ∷ flags ∷ 0 ∷ []) refl _ w e in
     let p : bits w 31 30 ≡ 0b00 = cc in
-    (is-R splits w p ∙ cc, filled-split layoutR refl (0b00 ∷ rowR op .opcode ∷ d ∷ a ∷ b ∷ 0 ∷ 0 ∷ flags ∷ 0 ∷ []) w u (ap (reduced layoutR) (l .parts)))
-laid-numbers (I op flags d a immediate) w u e =
+    record {
+      below = l .below;
+      own = is-R splits w p ∙ cc;
+      back =
+          filled-split layoutR refl (0b00 ∷ rowR op .opcode ∷ d ∷ a ∷ b ∷ 0 ∷ 0 ∷ flags ∷ 0 ∷ []) w (l .below)
+          (ap (reduced layoutR) (l .parts));
+    }
+laid-numbers (I op flags d a immediate) w e =
     let l = laid-is layoutI refl (0b010 ∷ rowI op .opcode ∷ d ∷ a ∷ cut (2 ^ 8) immediate ∷ flags ∷ 0 ∷ []) refl _ w e in
     let p : bits w 31 29 ≡ 0b010 = cc in
     let s = signed-cut (2 ^ 8) immediate (and-right (allowsI op flags d) _ (l .allows)) in
-    (is-I splits w p ∙ cc, filled-split layoutI refl (0b010 ∷ rowI op .opcode ∷ d ∷ a ∷ immediate ∷ flags ∷ 0 ∷ []) w u (ap (reduced layoutI) (l .parts) ∙ rw (cut-again (2 ^ 9) immediate (pow-pos 9))))
-laid-numbers (Movei op flag d immediate) w u e =
+    record {
+      below = l .below;
+      own = is-I splits w p ∙ cc;
+      back =
+          filled-split layoutI refl (0b010 ∷ rowI op .opcode ∷ d ∷ a ∷ immediate ∷ flags ∷ 0 ∷ []) w (l .below)
+          (ap (reduced layoutI) (l .parts) ∙ rw (cut-again (2 ^ 9) immediate (pow-pos 9)));
+    }
+laid-numbers (Movei op flag d immediate) w e =
     let l = laid-is layoutMovei refl (0b01100 ∷ rowMovei op .opcode ∷ d ∷ immediate ∷ flag ∷ 0 ∷ []) refl _ w e in
     let p : bits w 31 27 ≡ 0b01100 = cc in
-    (is-Movei splits w p ∙ cc, filled-split layoutMovei refl (0b01100 ∷ rowMovei op .opcode ∷ d ∷ immediate ∷ flag ∷ 0 ∷ []) w u (ap (reduced layoutMovei) (l .parts)))
-laid-numbers (J op register offset) w u e =
+    record {
+      below = l .below;
+      own = is-Movei splits w p ∙ cc;
+      back =
+          filled-split layoutMovei refl (0b01100 ∷ rowMovei op .opcode ∷ d ∷ immediate ∷ flag ∷ 0 ∷ []) w (l .below)
+          (ap (reduced layoutMovei) (l .parts));
+    }
+laid-numbers (J op register offset) w e =
     let l = laid-is layoutJ refl (0b01110 ∷ rowJ op .opcode ∷ register ∷ cut (2 ^ 17) offset ∷ []) refl _ w e in
     let p : bits w 31 27 ≡ 0b01110 = cc in
     let s = signed-cut (2 ^ 17) offset (and-right (allowsJ op register offset) _ (l .allows)) in
-    (is-J splits w p ∙ cc, filled-split layoutJ refl (0b01110 ∷ rowJ op .opcode ∷ register ∷ offset ∷ []) w u (ap (reduced layoutJ) (l .parts) ∙ rw (cut-again (2 ^ 18) offset (pow-pos 18))))
-laid-numbers (C op first second) w u e =
+    record {
+      below = l .below;
+      own = is-J splits w p ∙ cc;
+      back =
+          filled-split layoutJ refl (0b01110 ∷ rowJ op .opcode ∷ register ∷ offset ∷ []) w (l .below)
+          (ap (reduced layoutJ) (l .parts) ∙ rw (cut-again (2 ^ 18) offset (pow-pos 18)));
+    }
+laid-numbers (C op first second) w e =
     let l = laid-is layoutC refl (0b01111 ∷ rowC op .opcode ∷ first ∷ second ∷ 0 ∷ []) refl _ w e in
     let p : bits w 31 27 ≡ 0b01111 = cc in
-    (is-C splits w p ∙ cc, filled-split layoutC refl (0b01111 ∷ rowC op .opcode ∷ first ∷ second ∷ 0 ∷ []) w u (ap (reduced layoutC) (l .parts)))
-laid-numbers (M op register base offset) w u e =
+    record {
+      below = l .below;
+      own = is-C splits w p ∙ cc;
+      back =
+          filled-split layoutC refl (0b01111 ∷ rowC op .opcode ∷ first ∷ second ∷ 0 ∷ []) w (l .below)
+          (ap (reduced layoutC) (l .parts));
+    }
+laid-numbers (M op register base offset) w e =
     let l = laid-is layoutM refl (0b10 ∷ rowM op .opcode ∷ register ∷ base ∷ cut (2 ^ 8) offset ∷ 0 ∷ 0 ∷ []) refl _ w e in
     let p : bits w 31 30 ≡ 0b10 = cc in
     let s = signed-cut (2 ^ 8) offset (and-right (allowsM op register) _ (l .allows)) in
-    (is-M splits w p ∙ cc, filled-split layoutM refl (0b10 ∷ rowM op .opcode ∷ register ∷ base ∷ offset ∷ 0 ∷ 0 ∷ []) w u (ap (reduced layoutM) (l .parts) ∙ rw (cut-again (2 ^ 9) offset (pow-pos 9))))
+    record {
+      below = l .below;
+      own = is-M splits w p ∙ cc;
+      back =
+          filled-split layoutM refl (0b10 ∷ rowM op .opcode ∷ register ∷ base ∷ offset ∷ 0 ∷ 0 ∷ []) w (l .below)
+          (ap (reduced layoutM) (l .parts) ∙ rw (cut-again (2 ^ 9) offset (pow-pos 9)));
+    }
 
 pub numbered : Numbered
 unfolding Numbered Exact
-numbered w i u e = laid-numbers i w u (exact w i u .0 e) .0
+numbered w i u e = laid-numbers i w (exact w i u .0 e) .own
 
 -- numbers are the same as themselves, and as no others
-own : (n : Numbers) → sameNumbers n n ≡ true
+pub own : (n : Numbers) → sameNumbers n n ≡ true
 unfolding sameNumbers
 own n =
     rw (eq-eqb (n .format) (n .format) refl, eq-eqb (n .opcode) (n .opcode) refl, eq-eqb (n .flags) (n .flags) refl, eq-eqb (n .first) (n .first) refl, eq-eqb (n .second) (n .second) refl, eq-eqb (n .third) (n .third) refl)
 
-same : (a b : Numbers) → sameNumbers a b ≡ true → a ≡ b
+pub same : (a b : Numbers) → sameNumbers a b ≡ true → a ≡ b
 unfolding sameNumbers all
 same a b t =
     let h = each (eqb (a .format) (b .format) ∷ eqb (a .opcode) (b .opcode) ∷ eqb (a .flags) (b .flags) ∷ eqb (a .first) (b .first) ∷ eqb (a .second) (b .second) ∷ eqb (a .third) (b .third) ∷ []) t in
@@ -91,29 +135,62 @@ same a b t =
     let third : a .third ≡ b .third = eqb-true _ _ (h .1 .1 .1 .1 .1 .0) in
     (λ k. record { format = format k; opcode = opcode k; flags = flags k; first = first k; second = second k; third = third k })
 
-pub word-again : WordAgain
-unfolding WordAgain Exact wordFor
-word-again w i u e =
-    let h = laid-numbers i w u (exact w i u .0 e) in
-    let back : wordOf (numbersOf w) ≡ w = ap wordOf (h .0) ∙ h .1 in
-    rw (back, e, own (numbersOf w))
+-- Numbers are an instruction's exactly if they are found to be.
 
-pub written : Written
-unfolding Written Exact WordAgain
-written w i u e = rw (← laid-numbers i w u e .0) (word-again w i u (exact w i u .1 e))
+finds : (i : Instruction) → shaped (instructionNumbers i) ≡ some i
+unfolding shaped
+finds (R op flags d a b) = rw (finds-R op)
+finds (I op flags d a immediate) = rw (finds-R op)
+finds (Movei op flag d immediate) = rw (finds-Movei op)
+finds (J op register offset) = rw (finds-J op)
+finds (C op first second) = rw (finds-C op)
+finds (M op register base offset) = rw (finds-M op)
 
-matched-is : (n : Numbers) (w : ℕ) (r : Answer Instruction) (h : Held) → matched n w r ≡ given h →
-    (r ≡ given (h .instruction)) × (w ≡ h .word) × (sameNumbers (numbersOf w) n ≡ true)
-matched-is n w (refused k) h e = not-given no-word h e
-matched-is n w (given i) h e = by (sameNumbers (numbersOf w) n) refl e
+owned-is : (n : Numbers) (o : Option Instruction) (i : Instruction) → owned n o ≡ some i → n ≡ instructionNumbers i
+owned-is n none i e = let z : _≡_ {A = ℕ} 0 1 = cc in absurd (omega arith)
+owned-is n (some x) i e = by (sameNumbers (instructionNumbers x) n) refl e
   where
-    by : (t : Bool) → sameNumbers (numbersOf w) n ≡ t → cond t (given (held w i)) (refused no-word) ≡ given h →
-        (given i ≡ given (h .instruction)) × (w ≡ h .word) × (sameNumbers (numbersOf w) n ≡ true)
-    by true s g = let k : held w i ≡ h = cc in (ap (λ (x : Held). given (x .instruction)) k, ap (λ (x : Held). x .word) k, s)
-    by false s g = not-given no-word h g
+    by : (t : Bool) → sameNumbers (instructionNumbers x) n ≡ t → cond t (some x) none ≡ some i → n ≡ instructionNumbers i
+    by true s g = let k : x ≡ i = cc in sym (same (instructionNumbers x) n s) ∙ ap instructionNumbers k
+    by false s g = let z : _≡_ {A = ℕ} 0 1 = cc in absurd (omega arith)
+
+pub owned-exactly : Owned
+unfolding Owned instructionOf
+owned-exactly n i = (owned-is n (shaped n) i, (λ e. rw (e, finds i, own (instructionNumbers i))))
+
+-- Numbers have a word exactly if they are an instruction's and that instruction writes it.
+
+beside-is : (i j : Instruction) (a : Answer ℕ) (w : ℕ) → beside i a ≡ given (held w j) → (i ≡ j) × (a ≡ given w)
+beside-is i j (given v) w e =
+    let k : held v i ≡ held w j = cc in
+    (ap (λ (x : Held). x .instruction) k, ap (λ (x : Held). given (x .word)) k)
+beside-is i j (refused number) w e = not-given number (held w j) e
+
+written-is : (n : Numbers) (o : Option Instruction) (w : ℕ) (i : Instruction) → instructionOf n ≡ o → written o ≡ given (held w i) →
+    (n ≡ instructionNumbers i) × (write i ≡ given w)
+unfolding Owned
+written-is n none w i o e = not-given no-word (held w i) e
+written-is n (some x) w i o e =
+    let b = beside-is x i (write x) w e in
+    (owned-exactly n i .0 (o ∙ ap some (b .0)), rw (← b .0) (b .1))
+
+pub has-word : HasWord
+unfolding HasWord Owned wordFor
+has-word n w i = (written-is n (instructionOf n) w i refl, (λ h. rw (owned-exactly n i .1 (h .0), h .1)))
+
+-- Reading and writing belong together.
+
+pub word-again : WordAgain
+unfolding WordAgain HasWord Numbered Exact
+word-again w i u e = has-word (numbersOf w) w i .1 (numbered w i u e, exact w i u .0 e)
 
 pub numbers-again : NumbersAgain
-unfolding NumbersAgain wordFor
+unfolding NumbersAgain HasWord Exact
 numbers-again n h e =
-    let m = matched-is n (wordOf n) (read (wordOf n)) h e in
-    rw (← m .1) (m .0, same (numbersOf (wordOf n)) n (m .2))
+    let k = has-word n (h .word) (h .instruction) .0 e in
+    let l = laid-numbers (h .instruction) (h .word) (k .1) in
+    (exact (h .word) (h .instruction) (l .below) .1 (k .1), l .own ∙ sym (k .0))
+
+pub rows-hold : Rows
+unfolding numbersOf signed
+rows-hold = record { r = refl; i = refl; movei = refl; j = refl; c = refl; m = refl }

@@ -1,3 +1,4 @@
 -- Laws that belong to no one function, and the proofs of what specs/ claims.
 pub mod Extended
 pub mod Again
+pub mod Search

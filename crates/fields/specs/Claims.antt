@@ -1,22 +1,23 @@
--- What is proved of the six numbers: they are those of the instruction that the word is read as, and reading and writing belong together.
+-- What is proved of the six numbers: they are an instruction's, and have the word that it is written as; reading and writing belong together.
 use Prim.Native.Nat.{ℕ, _<_, _^_}
+use mathlib.Core.Logic.{_↔_}
+use mathlib.Core.Option.{some}
 use mathlib.Core.Path.{_≡_}
 use Rattle.answer.specs.Answer.{given}
 use Rattle.isa.specs.Read.{read}
-use Rattle.isa.specs.Table.{rowR, rowI, rowMovei, rowJ, rowC, rowM}
 use Rattle.isa.specs.Write.{write}
 use Rattle.fields.specs.Find.{Held, held, wordFor}
+use Rattle.fields.specs.Instructions.{instructionNumbers, instructionOf}
 use Rattle.fields.specs.Numbers.{numbers, numbersOf}
-use Rattle.fields.specs.Types.{Numbers, Instruction, R, I, Movei, J, C, M}
+use Rattle.fields.specs.Types.{Numbers, Instruction}
 
--- an instruction's format, its opcode in the table, its flags and its fields
-abbrev pub instructionNumbers : Instruction → Numbers
-instructionNumbers (R op flags d a b) = numbers 0 (rowR op .opcode) flags d a b
-instructionNumbers (I op flags d a immediate) = numbers 1 (rowI op .opcode) flags d a immediate
-instructionNumbers (Movei op flag d immediate) = numbers 2 (rowMovei op .opcode) flag d immediate 0
-instructionNumbers (J op register offset) = numbers 3 (rowJ op .opcode) 0 register offset 0
-instructionNumbers (C op first second) = numbers 4 (rowC op .opcode) 0 first second 0
-instructionNumbers (M op register base offset) = numbers 5 (rowM op .opcode) 0 register base offset
+-- Numbers are an instruction's exactly if they are found to be.
+unfoldable pub Owned : Type 0
+Owned = (n : Numbers) (i : Instruction) → (instructionOf n ≡ some i) ↔ (n ≡ instructionNumbers i)
+
+-- Numbers have a word exactly if they are an instruction's and that instruction writes it.
+unfoldable pub HasWord : Type 0
+HasWord = (n : Numbers) (w : ℕ) (i : Instruction) → (wordFor n ≡ given (held w i)) ↔ ((n ≡ instructionNumbers i) × (write i ≡ given w))
 
 -- The numbers of a word are those of the instruction that it is read as.
 unfoldable pub Numbered : Type 0
@@ -26,10 +27,16 @@ Numbered = (w : ℕ) (i : Instruction) → w < 2 ^ 32 → read w ≡ given i →
 unfoldable pub WordAgain : Type 0
 WordAgain = (w : ℕ) (i : Instruction) → w < 2 ^ 32 → read w ≡ given i → wordFor (numbersOf w) ≡ given (held w i)
 
--- the numbers of an instruction that has a word are written as that word,
-unfoldable pub Written : Type 0
-Written = (w : ℕ) (i : Instruction) → w < 2 ^ 32 → write i ≡ given w → wordFor (instructionNumbers i) ≡ given (held w i)
-
 -- and numbers that are written and read are the numbers again.
 unfoldable pub NumbersAgain : Type 0
 NumbersAgain = (n : Numbers) (h : Held) → wordFor n ≡ given h → (read (h .word) ≡ given (h .instruction)) × (numbersOf (h .word) ≡ n)
+
+-- "0x040C1080 is add s3,s1,s2", "0x44041FF8 addi s1,s1,-1", "0x62060000 movei s1 ..", "0x78001000", "0x82081000 load32 s2,(s1)", and a jump
+-- by -4: their numbers, computed
+pub record Rows : Type 0 where
+  pub r : numbersOf 0x040C1080 ≡ numbers 0 4 0b000 3 1 2
+  pub i : numbersOf 0x44041FF8 ≡ numbers 1 4 0b00 1 1 0xFFFFFFFF
+  pub movei : numbersOf 0x62060000 ≡ numbers 2 2 0 1 0x8000 0
+  pub j : numbersOf 0x7003FFFC ≡ numbers 3 0 0 0 0xFFFFFFFC 0
+  pub c : numbersOf 0x78001000 ≡ numbers 4 0 0 0 1 0
+  pub m : numbersOf 0x82081000 ≡ numbers 5 2 0 2 1 0

@@ -1,12 +1,12 @@
 -- The word of six numbers, where they have one.
 use Prim.Native.Nat.{ℕ}
-use mathlib.Core.Bool.{cond}
+use mathlib.Core.Option.{Option, none, some}
 use Rattle.answer.specs.Answer.{Answer, given, refused, no-word}
-use Rattle.isa.specs.Read.{read}
-use Rattle.fields.specs.Numbers.{sameNumbers, numbersOf, wordOf}
+use Rattle.isa.specs.Write.{write}
+use Rattle.fields.specs.Instructions.{instructionOf}
 use Rattle.fields.specs.Types.{Numbers, Found, Word, NoWord, Instruction}
 
--- a word, and the instruction that it is read as
+-- a word, and the instruction whose word it is
 pub record Held : Type 0 where
   pub word : ℕ
   pub instruction : Instruction
@@ -19,11 +19,16 @@ abbrev pub found : Found → Answer Held
 found (Word w i) = given (held w i)
 found NoWord = refused no-word
 
--- a word that is read as an instruction, if the numbers are its own
-abbrev pub matched : Numbers → ℕ → Answer Instruction → Answer Held
-matched n w (given i) = cond (sameNumbers (numbersOf w) n) (given (held w i)) (refused no-word)
-matched n w (refused number) = refused no-word
+-- what an instruction is written as, beside it
+abbrev pub beside : Instruction → Answer ℕ → Answer Held
+beside i (given w) = given (held w i)
+beside i (refused number) = refused number
 
--- The only word that can have these numbers is the one with them in its fields.
+-- "6: instruction to be written has no word", and no instruction has none either
+abbrev pub written : Option Instruction → Answer Held
+written none = refused no-word
+written (some i) = beside i (write i)
+
+-- the word of the instruction whose numbers they are
 unfoldable pub wordFor : Numbers → Answer Held
-wordFor n = matched n (wordOf n) (read (wordOf n))
+wordFor n = written (instructionOf n)

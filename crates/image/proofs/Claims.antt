@@ -4,3 +4,4 @@ pub use Rattle.image.proofs.Records.{record-again}
 pub use Rattle.image.proofs.Numbers.{exact}
 pub use Rattle.image.proofs.Places.{begins, placed}
 pub use Rattle.image.proofs.RoundTrip.{written-then-read, read-then-written, reads-exactly}
+pub use Rattle.image.proofs.Computed.{bytes-hold, write-order, read-order, opening-order}

@@ -16,4 +16,5 @@ pub mod Records
 pub mod Restored
 pub mod Places
 pub mod RoundTrip
+pub mod Computed
 pub mod Claims

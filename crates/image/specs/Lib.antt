@@ -10,3 +10,4 @@ pub mod Answer
 pub mod Calls
 pub mod Opening
 pub mod Claims
+pub mod Rows

@@ -1,10 +1,19 @@
 -- `korvammel_read_word` meets its contract: by what the word is read as.
-use mathlib.Core.Path.{ap, _∙_}
+use mathlib.Core.Path.{ap, sym, _∙_}
 use Rattle.answer.specs.Left.{left}
+use Rattle.fields.proofs.Again.{numbered}
+use Rattle.fields.specs.Claims.{Numbered}
+use Rattle.isa.specs.Answer.{reading}
 use Rattle.capi_words.specs.Words.{listOf, readWord}
 use borrow.Author.Needs.{needs}
 use Rattle.capi_words.proofs.words.korvammel_read_word.Statement.{statement}
 use Rattle.capi_words.proofs.words.korvammel_read_word.Tie as tie
+
+returns : tie.Need-returns
+unfolding readWord Numbered
+returns c =
+    let r = sym (c .before .before .before .before .before .read-word .ensures) ∙ ap reading (c .before .before .before .enum-told .given .1) in
+    rw r (ap (left 0) (c .put-numbers .ensures ∙ ap listOf (c .before .before .split .ensures ∙ numbered _ _ (search needs) r)))
 
 pub korvammel-read-word-spec : {M : Type 1} → statement M
 unfolding readWord
@@ -17,6 +26,6 @@ korvammel-read-word-spec =
     (λ c κs. search needs)
     (λ c. search needs)
     (λ c. search needs)
-    (λ c. rw (← c .before .before .before .before .before .read-word .ensures, c .before .before .before .enum-told .given .1) (ap (left 0) (c .put-numbers .ensures ∙ ap listOf (c .before .before .split .ensures))))
+    returns
     (λ c. rw (← c .before .before .read-word .ensures, c .enum-told2 .given .1))
     (λ c. rw (← c .before .before .read-word .ensures, c .enum-told3 .given .1)))

@@ -1,0 +1,30 @@
+-- The rows of specs/: each is computed.
+use mathlib.Core.Path.{refl}
+use Rattle.answer.specs.Refusal.{firstThatApplies}
+use Rattle.machine.specs.Machine.{allThreads, anyThread, countThreads, start}
+use Rattle.machine.specs.Search.{all, any, count}
+use Rattle.machine.specs.WellFormed.{numbersInRange, wellFormed}
+use Rattle.image.specs.Bytes.{bytesOf}
+use Rattle.image.specs.Fields.{accepted, threadOf}
+use Rattle.image.specs.Image.{entryIn, threadsIn, machineIn, recordIn}
+use Rattle.image.specs.Join.{joined, total, allBelow}
+use Rattle.image.specs.Layout.{recordOf, sectionOf, startOf, bodyAt, standsAt, headsOf, headsIn}
+use Rattle.image.specs.Opening.{recordBytes, openingNumber}
+use Rattle.image.specs.Refusal.{writeNumber, readNumber}
+use Rattle.image.specs.Rows.{BytesHold, WriteOrder, ReadOrder, OpeningOrder}
+
+pub bytes-hold : BytesHold
+unfolding recordBytes joined sectionOf recordOf bytesOf
+bytes-hold = record { hd = λ m. refl; record-bytes = refl; sr = refl; vr = refl; mm = refl; word = refl }
+
+pub write-order : WriteOrder
+unfolding writeNumber firstThatApplies wellFormed numbersInRange allThreads anyThread countThreads all any count start
+write-order = record { room = refl; memory = refl; buffer = refl; not-well-formed = refl; taken = refl }
+
+pub read-order : ReadOrder
+unfolding readNumber firstThatApplies headsIn headsOf allBelow standsAt startOf total
+read-order = record { room = refl; memory = refl; length = refl; marks = refl }
+
+pub opening-order : OpeningOrder
+unfolding openingNumber recordBytes joined sectionOf recordOf firstThatApplies headsOf allBelow standsAt startOf total recordIn entryIn threadsIn machineIn bodyAt threadOf accepted wellFormed numbersInRange allThreads anyThread countThreads all any count
+opening-order = record { taken = refl; not-well-formed = refl; not-carried = refl; marked = refl; out-of-place = refl }
