@@ -4,7 +4,7 @@ use mathlib.Core.Bool.{Bool, _||_, not, cond}
 use mathlib.Core.List.{List, [], _∷_}
 use mathlib.Core.Option.{Option, none, some}
 use lib.Dec.{ltb, eqb}
-use Rattle.answer.specs.Answer.{bad-registers, bad-memory, bad-length}
+use Rattle.answer.specs.Answer.{bad-program, bad-registers, bad-memory, bad-length}
 use Rattle.answer.specs.declared.refusal.Verdict.{Verdict}
 use Rattle.answer.specs.declared.refusal.Verdict.the-variants.{Accepted, Refused}
 
@@ -51,6 +51,17 @@ check number applies = record { number = number; applies = applies }
 unfoldable pub firstThatApplies : List Check → Option ℕ
 firstThatApplies [] = none
 firstThatApplies (c ∷ cs) = cond (c .applies) (some (c .number)) (firstThatApplies cs)
+
+-- what a run takes of lengths: a program and a register room of so many words, a memory of so many bytes
+abbrev pub lengthChecks : ℕ → ℕ → ℕ → List Check
+lengthChecks words room bytes =
+    check bad-program (badProgram words)
+    ∷ check bad-registers (badRegisters room)
+    ∷ check bad-memory (badMemory bytes)
+    ∷ []
+
+unfoldable pub lengthsNumber : ℕ → ℕ → ℕ → Option ℕ
+lengthsNumber words room bytes = firstThatApplies (lengthChecks words room bytes)
 
 -- what both calls of an image take: a register room of so many words, a memory and an image of so many bytes
 abbrev pub sizeChecks : ℕ → ℕ → ℕ → List Check

@@ -4,6 +4,7 @@ mod refusal;
 pub use refusal::Verdict;
 pub use refusal::bad_mask;
 pub use refusal::bad_memory;
-pub use refusal::bad_program;
 pub use refusal::bad_registers;
+pub use refusal::first_refusal;
+pub use refusal::lengths_verdict;
 pub use refusal::sizes_verdict;

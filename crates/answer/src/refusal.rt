@@ -1,7 +1,8 @@
 // What a call is refused for: the tests of document 01's table.
 ghost use Prim.Native.Nat.{_≤_};
+ghost use mathlib.Core.Option.{some};
 ghost use mathlib.Core.Path.{_≡_};
-ghost use Rattle.answer.specs.Refusal.{badProgram, badRegisters, badMemory, badMask, badLength, numbered, sizesNumber};
+ghost use Rattle.answer.specs.Refusal.{badProgram, badRegisters, badMemory, badMask, badLength, numbered, refusedOr, lengthsNumber, sizesNumber};
 
 // What a call's checks say; Refused carries a number of the table.
 pub enum Verdict {
@@ -10,7 +11,7 @@ pub enum Verdict {
 }
 
 // Whether a program's length is not allowed.
-pub fn bad_program(words: usize) -> bool
+fn bad_program(words: usize) -> bool
     ensures { λ r. ⌜ r ≡ badProgram words ⌝ }
 {
     (words == 0) | (16384 < words)
@@ -35,6 +36,35 @@ pub fn bad_mask(mask: u32) -> bool
     ensures { λ r. ⌜ r ≡ badMask mask ⌝ }
 {
     (mask == 0) | (255 < mask)
+}
+
+// The first of two verdicts that refuses.
+pub fn first_refusal(first: Verdict, then: Verdict) -> Verdict
+    ensures { λ r. ⌜ numbered r ≡ refusedOr (numbered first) some (numbered then) ⌝ }
+{
+    match first {
+        Verdict::Accepted => then,
+        Verdict::Refused(number) => Verdict::Refused(number),
+    }
+}
+
+// The number that a run's lengths are refused with, if any: of the words of a program and of a register room, and the bytes of a memory.
+pub fn lengths_verdict(words: usize, room: usize, bytes: usize) -> Verdict
+    ensures { λ r. ⌜ numbered r ≡ lengthsNumber words room bytes ⌝ }
+{
+    let wrong_program = bad_program(words);
+    let wrong_room = bad_registers(room);
+    let wrong_memory = bad_memory(bytes);
+    if wrong_program {
+        return Verdict::Refused(1);
+    }
+    if wrong_room {
+        return Verdict::Refused(2);
+    }
+    if wrong_memory {
+        return Verdict::Refused(3);
+    }
+    Verdict::Accepted
 }
 
 // Whether an image of so many bytes is not that of a memory of so many.

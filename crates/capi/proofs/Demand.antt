@@ -11,14 +11,14 @@ use Rattle.answer.specs.Answer.{given, refused}
 use Rattle.answer.specs.Refusal.{badProgram, badRegisters, badMemory, firstThatApplies, refusedOr}
 use Rattle.image.proofs.Claims.{record-again}
 use Rattle.image.proofs.Openings.{opening-machine, opening-well-formed}
-use Rattle.image.proofs.Refusals.{first-after}
+use Rattle.answer.proofs.Checks.{first-after}
 use Rattle.image.specs.Image.{machineIn}
 use Rattle.image.specs.Opening.{noBlocks, recordBytes, openingNumber, openingChecks, readOpening}
 use Rattle.interpreter.proofs.Claims.{stays-well-formed, demand}
 use Rattle.interpreter.proofs.Refusals.{run-refused}
 use Rattle.interpreter.specs.Answer.{Ending, stopped, stuck, spent}
 use Rattle.interpreter.specs.Demand.{Session}
-use Rattle.interpreter.specs.Refusal.{runNumber as recordNumber}
+use Rattle.interpreter.specs.Refusal.{runNumber as interpreterNumber}
 use Rattle.interpreter.specs.Run.{Outcome, number, run, runAnswer}
 use Rattle.interpreter.specs.Choosing.{endingAt, reached, issues}
 use Rattle.machine.specs.State.{State, state}
@@ -26,7 +26,8 @@ use Rattle.machine.specs.WellFormed.{wellFormed}
 use Rattle.machine.specs.declared.record.Machine.{Machine}
 use Rattle.capi.specs.Answer.{endingOf}
 use Rattle.capi.specs.Demand.{RunCall, heldIn, RunCalls, endingIn, told, asCall, BoardDemandHolds}
-use Rattle.capi.specs.Refusal.{lengthChecks, lengthsNumber, runNumber}
+use Rattle.answer.specs.Refusal.{lengthChecks, lengthsNumber}
+use Rattle.capi.specs.Refusal.{runNumber}
 use Rattle.capi.specs.Runs.{ran, done, runCall}
 
 -- a record's bytes, written of a well-formed record, are accepted and hold it
@@ -93,7 +94,7 @@ module _ (p : List ℕ) (b : ℕ) (registers memory opening : List ℕ) (h : ope
       ∙ ap (λ o. refusedOr lengths some o) h ∙ or-none lengths
 
   held-number : number p held ≡ lengths
-  unfolding recordNumber lengthsNumber firstThatApplies
+  unfolding interpreterNumber lengthsNumber firstThatApplies
   held-number = rw held-well-formed
 
   told-run : told (runCall p b registers memory opening) ≡ run p b held

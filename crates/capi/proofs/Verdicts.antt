@@ -5,7 +5,7 @@ use mathlib.Core.Option.{Option, none, some}
 use mathlib.Core.Path.{_≡_, sym, ap, _∙_}
 use Rattle.answer.specs.Refusal.{Check, firstThatApplies, numbered, refusedOr}
 use Rattle.image.proofs.Openings.{opening-machine}
-use Rattle.image.proofs.Refusals.{first-after, either-given}
+use Rattle.answer.proofs.Checks.{first-after, either-given}
 use Rattle.image.specs.Image.{machineIn}
 use Rattle.image.specs.Opening.{noBlocks, openingChecks, openingNumber, judged, readOpening}
 use Rattle.image.specs.declared.verdicts.Judgement.{Judgement}

@@ -2,10 +2,10 @@
 ghost use mathlib.Core.Path.{_≡_};
 ghost use Rattle.answer.specs.Left.{left};
 ghost use Rattle.capi.specs.Images.{writeCall, restored, readCall};
-use crate::numbers::first_refusal;
 use crate::numbers::read_number;
 use crate::numbers::wide;
 use answer::Verdict;
+use answer::first_refusal;
 use answer::sizes_verdict;
 
 // Writes a machine's image.

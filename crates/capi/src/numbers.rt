@@ -1,11 +1,8 @@
 // Answers as the numbers that the calls give back: 0, or a number of document 01's table.
-ghost use mathlib.Core.Option.{some};
 ghost use mathlib.Core.Path.{_≡_};
-ghost use Rattle.answer.specs.Refusal.{numbered, refusedOr};
 ghost use Rattle.image.specs.Answer.{readAnswered};
 ghost use Rattle.interpreter.specs.Answer.{startAnswered, answered};
 ghost use Rattle.capi.specs.Answer.{numberOf, endingOf};
-use answer::Verdict;
 use image::ReadAnswer;
 use interpreter::RunAnswer;
 use interpreter::StartAnswer;
@@ -14,16 +11,6 @@ pub fn wide(n: u8) -> u32
     ensures { λ r. ⌜ r ≡ n ⌝ }
 {
     n as u32
-}
-
-// The first of two verdicts that refuses.
-pub fn first_refusal(first: Verdict, then: Verdict) -> Verdict
-    ensures { λ r. ⌜ numbered r ≡ refusedOr (numbered first) some (numbered then) ⌝ }
-{
-    match first {
-        Verdict::Accepted => then,
-        Verdict::Refused(number) => Verdict::Refused(number),
-    }
 }
 
 pub fn start_number(answer: StartAnswer) -> u32

@@ -1,17 +1,12 @@
 // A start and a run.
 ghost use mathlib.Core.Path.{_≡_};
-ghost use lib.ListN.{length};
-ghost use Rattle.answer.specs.Refusal.{numbered};
-ghost use Rattle.capi.specs.Refusal.{lengthsNumber};
 ghost use Rattle.capi.specs.Runs.{begun, startCall, ran, runCall};
 use crate::numbers::ending;
-use crate::numbers::first_refusal;
 use crate::numbers::start_number;
 use crate::numbers::wide;
 use answer::Verdict;
-use answer::bad_memory;
-use answer::bad_program;
-use answer::bad_registers;
+use answer::first_refusal;
+use answer::lengths_verdict;
 
 // Starts the threads of a mask, and writes the machine record.
 #[no_mangle]
@@ -23,25 +18,6 @@ pub extern "C" fn korvammel_start(mask: u32, registers: &mut [u32], bytes: &mut 
     let machine = start.machine;
     image::write_record(machine, bytes);
     start_number(answer)
-}
-
-// Of the words of a program and of a register room, and the bytes of a memory.
-fn lengths_verdict(words: usize, room: usize, bytes: usize) -> Verdict
-    ensures { λ r. ⌜ numbered r ≡ lengthsNumber words room bytes ⌝ }
-{
-    let wrong_program = bad_program(words);
-    let wrong_room = bad_registers(room);
-    let wrong_memory = bad_memory(bytes);
-    if wrong_program {
-        return Verdict::Refused(1);
-    }
-    if wrong_room {
-        return Verdict::Refused(2);
-    }
-    if wrong_memory {
-        return Verdict::Refused(3);
-    }
-    Verdict::Accepted
 }
 
 // Runs a program, from the machine record and into it.

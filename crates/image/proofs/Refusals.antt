@@ -9,6 +9,7 @@ use borrow.Author.Tests.{eqb-true, eq-eqb, not-false}
 use lib.Dec.{ltb, eqb}
 use lib.ListN.{length}
 use Rattle.answer.specs.Answer.{given, refused}
+use Rattle.answer.proofs.Checks.{passed, first-after}
 use Rattle.answer.proofs.Lengths.{memory-most}
 use Rattle.answer.specs.Refusal.{badRegisters, badMemory, imageLength, badLength, Check, check, firstThatApplies, sizeChecks, sizesNumber, refusedOr}
 use Rattle.machine.specs.State.{State, state}
@@ -21,27 +22,6 @@ use Rattle.image.specs.Layout.{ofBlocks, kinds, startOf, headsIn}
 use Rattle.image.specs.Refusal.{writeNumber, contentNumber, recordChecks, recordsNumber, readNumber}
 use Rattle.image.specs.Types.{Shape}
 use Rattle.image.proofs.Rows.{whole-length}
-
--- a check that gives no number does not apply, and the rest give none
-passed : (applies : Bool) (n : ℕ) (rest : Option ℕ) → cond applies (some n) rest ≡ none → (applies ≡ false) × (rest ≡ none)
-passed true n rest h = absurd (let z : _≡_ {A = ℕ} 0 1 = cc in omega arith)
-passed false n rest h = (refl, h)
-
--- some checks before others
-pub first-after : (a b : List Check) → firstThatApplies (a ++ b) ≡ refusedOr (firstThatApplies a) some (firstThatApplies b)
-unfolding firstThatApplies
-first-after [] b = refl
-first-after (c ∷ cs) b = go (c .applies) (first-after cs b)
-  where
-    go : (x : Bool) → firstThatApplies (cs ++ b) ≡ refusedOr (firstThatApplies cs) some (firstThatApplies b)
-        → cond x (some (c .number)) (firstThatApplies (cs ++ b)) ≡ refusedOr (cond x (some (c .number)) (firstThatApplies cs)) some (firstThatApplies b)
-    go true e = refl
-    go false e = e
-
--- a number is given, or none
-pub either-given : (o p : Option ℕ) → refusedOr o some p ≡ none → (o ≡ none) × (p ≡ none)
-either-given none p h = (refl, h)
-either-given (some n) p h = absurd (let z : _≡_ {A = ℕ} 0 1 = cc in omega arith)
 
 last-check : (n : ℕ) (applies : Bool) → firstThatApplies (check n applies ∷ []) ≡ cond applies (some n) none
 unfolding firstThatApplies

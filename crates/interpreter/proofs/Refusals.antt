@@ -8,6 +8,7 @@ use native.Mathlib.Omega.{arith}
 use borrow.Author.Tests.{ltb-false, eqb-true, eqb-false, not-false}
 use lib.Dec.{ltb, eqb}
 use lib.ListN.{length}
+use Rattle.answer.proofs.Checks.{passed}
 use Rattle.answer.specs.Answer.{given, refused}
 use Rattle.machine.specs.State.{State}
 use Rattle.machine.proofs.Tests.{neither}
@@ -18,11 +19,6 @@ use Rattle.interpreter.specs.Refusal.{badRecord, startNumber, runNumber}
 use Rattle.interpreter.specs.Run.{number, runIssues, runReached, runAnswer, accepted, run}
 use Rattle.interpreter.specs.Start.{zeroes, withMasks, start}
 use Rattle.interpreter.specs.Types.{Machine}
-
--- a check that gives no number does not apply, and the rest give none
-passed : (applies : Bool) (n : ℕ) (rest : Option ℕ) → cond applies (some n) rest ≡ none → (applies ≡ false) × (rest ≡ none)
-passed true n rest h = absurd (let z : _≡_ {A = ℕ} 0 1 = cc in omega arith)
-passed false n rest h = (refl, h)
 
 -- A start.
 

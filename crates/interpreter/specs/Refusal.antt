@@ -1,10 +1,10 @@
 -- Which number of the table a call gives back (document 01, "Numbers given back").
 use Prim.Native.Nat.{ℕ}
 use mathlib.Core.Bool.{Bool, not}
-use mathlib.Core.List.{[], _∷_}
+use mathlib.Core.List.{List, [], _∷_, _++_}
 use mathlib.Core.Option.{Option}
-use Rattle.answer.specs.Answer.{bad-program, bad-registers, bad-memory, bad-record, bad-mask}
-use Rattle.answer.specs.Refusal.{badProgram, badRegisters, badMemory, badMask, check, firstThatApplies}
+use Rattle.answer.specs.Answer.{bad-registers, bad-record, bad-mask}
+use Rattle.answer.specs.Refusal.{badRegisters, badMask, Check, check, firstThatApplies, lengthChecks}
 use Rattle.machine.specs.WellFormed.{wellFormed}
 use Rattle.interpreter.specs.Types.{Machine}
 
@@ -12,16 +12,16 @@ use Rattle.interpreter.specs.Types.{Machine}
 abbrev pub badRecord : Machine → Bool
 badRecord m = not (wellFormed m)
 
+abbrev pub recordChecks : Machine → List Check
+recordChecks m = check bad-record (badRecord m) ∷ []
+
+unfoldable pub recordNumber : Machine → Option ℕ
+recordNumber m = firstThatApplies (recordChecks m)
+
 -- a start takes a mask, and a register room of so many words
 unfoldable pub startNumber : ℕ → ℕ → Option ℕ
 startNumber mask room = firstThatApplies (check bad-registers (badRegisters room) ∷ check bad-mask (badMask mask) ∷ [])
 
 -- a run takes a program and a register room of so many words, a memory of so many bytes, and a record
 unfoldable pub runNumber : ℕ → ℕ → ℕ → Machine → Option ℕ
-runNumber words room bytes m =
-    firstThatApplies
-    (check bad-program (badProgram words)
-    ∷ check bad-registers (badRegisters room)
-    ∷ check bad-memory (badMemory bytes)
-    ∷ check bad-record (badRecord m)
-    ∷ [])
+runNumber words room bytes m = firstThatApplies (lengthChecks words room bytes ++ recordChecks m)

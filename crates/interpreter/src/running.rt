@@ -8,42 +8,35 @@ ghost use Rattle.answer.specs.Refusal.{numbered, programWords, roomWords};
 ghost use Rattle.machine.specs.State.{state};
 ghost use Rattle.interpreter.specs.Answer.{stopped, stuck, spent, answered};
 ghost use Rattle.interpreter.specs.Choosing.{idleEnding};
-ghost use Rattle.interpreter.specs.Refusal.{runNumber};
+ghost use Rattle.interpreter.specs.Refusal.{recordNumber, runNumber};
 ghost use Rattle.interpreter.specs.Run.{outcome, accepted, run};
 ghost use Rattle.interpreter.specs.Stretch.{Stretched};
-ghost use Rattle.machine.specs.Scheduler.{someWaits};
-ghost use Rattle.machine.specs.Status.{isWaiting};
 use crate::outcome::Run;
 use crate::outcome::RunAnswer;
 use answer::Verdict;
-use answer::bad_memory;
-use answer::bad_program;
-use answer::bad_registers;
+use answer::first_refusal;
+use answer::lengths_verdict;
 use machine::Choice;
 use machine::Machine;
-use machine::Status;
+
+// The number that a machine record is refused with, if any.
+fn record_verdict(machine: Machine) -> Verdict
+    ensures { λ r. ⌜ numbered r ≡ recordNumber machine ⌝ }
+{
+    let well_formed = machine.well_formed();
+    if well_formed {
+        return Verdict::Accepted;
+    }
+    Verdict::Refused(4)
+}
 
 // The number that a run is refused with, if any: of the words of its program and register room, the bytes of its memory, and its record.
 fn run_verdict(words: usize, room: usize, bytes: usize, machine: Machine) -> Verdict
     ensures { λ r. ⌜ numbered r ≡ runNumber words room bytes machine ⌝ }
 {
-    let wrong_program = bad_program(words);
-    let wrong_room = bad_registers(room);
-    let wrong_memory = bad_memory(bytes);
-    let well_formed = machine.well_formed();
-    if wrong_program {
-        return Verdict::Refused(1);
-    }
-    if wrong_room {
-        return Verdict::Refused(2);
-    }
-    if wrong_memory {
-        return Verdict::Refused(3);
-    }
-    if well_formed {
-        return Verdict::Accepted;
-    }
-    Verdict::Refused(4)
+    let lengths = lengths_verdict(words, room, bytes);
+    let content = record_verdict(machine);
+    first_refusal(lengths, content)
 }
 
 // What a run answers where nothing more is issued: whether a thread is running, and whether one waits.
@@ -59,37 +52,11 @@ fn answer_of(running: bool, waits: bool) -> RunAnswer
     RunAnswer::Stopped
 }
 
-fn is_waiting(status: Status) -> bool
-    ensures { λ r. ⌜ r ≡ isWaiting status ⌝ }
-{
-    match status {
-        Status::Idle => false,
-        Status::Running => false,
-        Status::Ended => false,
-        Status::Trapped(_) => false,
-        Status::Waiting(_, _) => true,
-    }
-}
-
-// Whether a thread waits: what tells a stuck machine from a stopped one.
-fn some_waits(machine: Machine) -> bool
-    ensures { λ r. ⌜ r ≡ someWaits machine ⌝ }
-{
-    for t in 0..8usize {
-        let entry = machine.threads[t];
-        let status = entry.status;
-        if is_waiting(status) {
-            return true;
-        }
-    }
-    false
-}
-
 // What it hands back there.
 fn ended(machine: Machine, running: bool, made: u32) -> Run
     ensures { λ r. ⌜ (answered (r .answer) ≡ given (cond running spent (idleEnding machine))) × (r .issues ≡ made) × (r .machine ≡ machine) ⌝ }
 {
-    let waits = some_waits(machine);
+    let waits = machine.some_waits();
     Run {
         answer: answer_of(running, waits),
         issues: made,

@@ -1,19 +1,16 @@
 // A machine is started.
-ghost use Prim.Native.Nat.{_<_, _≤_};
+ghost use Prim.Native.Nat.{_≤_};
 ghost use mathlib.Core.Path.{_≡_};
 ghost use lib.ListN.{length};
 ghost use Rattle.answer.specs.Refusal.{numbered};
 ghost use Rattle.interpreter.specs.Refusal.{startNumber};
 ghost use Rattle.interpreter.specs.Start.{zeroes, withMasks, started, start};
-ghost use Rattle.machine.specs.Machine.{startStatus, start as startRecord};
 use crate::outcome::Start;
 use crate::outcome::StartAnswer;
 use answer::Verdict;
 use answer::bad_mask;
 use answer::bad_registers;
 use machine::Machine;
-use machine::Status;
-use machine::Thread;
 
 // The number that a start is refused with, if any: of its mask, and of the words of its register room.
 fn start_verdict(mask: u32, room: usize) -> Verdict
@@ -49,31 +46,6 @@ fn set_masks(registers: &mut [u32])
     }
 }
 
-// The status that a thread starts with.
-fn start_status(mask: u8, thread: usize) -> Status
-    requires { ⌜ thread < 8 ⌝ }
-    ensures { λ r. ⌜ r ≡ startStatus mask thread ⌝ }
-{
-    if (mask >> thread) % 2 == 0 {
-        return Status::Idle;
-    }
-    Status::Running
-}
-
-// The record that a mask starts with: its threads running, and 7 last.
-fn start_record(mask: u8) -> Machine
-    ensures { λ r. ⌜ r ≡ startRecord mask ⌝ }
-{
-    let mut machine = Machine::zero();
-    machine.enabled = mask;
-    machine.last = 7;
-    for t in 0..8usize {
-        let status = start_status(mask, t);
-        machine.threads[t] = Thread { status };
-    }
-    machine
-}
-
 // The machine that an enabled mask starts.
 pub fn start(mask: u32, registers: &mut [u32]) -> Start
     ensures { λ r. ⌜ started r (now (registers .exit)) ≡ start mask (now (registers .entry)) ⌝ }
@@ -89,7 +61,7 @@ pub fn start(mask: u32, registers: &mut [u32]) -> Start
             set_masks(registers);
             Start {
                 answer: StartAnswer::Started,
-                machine: start_record(mask as u8),
+                machine: Machine::started(mask as u8),
             }
         }
     }

@@ -3,7 +3,7 @@ ghost use Prim.Native.Nat.{_<_};
 ghost use mathlib.Core.Bool.{cond};
 ghost use mathlib.Core.Path.{_≡_};
 ghost use lib.Dec.{eqb};
-ghost use Rattle.machine.specs.Machine.{statusAt, withStatusAt, bit, zeroed, trap, end};
+ghost use Rattle.machine.specs.Machine.{statusAt, withStatusAt, bit, zeroed, startStatus, start, trap, end};
 use crate::status::Status;
 use crate::status::Thread;
 
@@ -31,6 +31,17 @@ fn either(first: bool, a: Status, b: Status) -> Status
     b
 }
 
+// The status that a thread starts with.
+fn start_status(mask: u8, thread: usize) -> Status
+    requires { ⌜ thread < 8 ⌝ }
+    ensures { λ r. ⌜ r ≡ startStatus mask thread ⌝ }
+{
+    if is_disabled(mask, thread) {
+        return Status::Idle;
+    }
+    Status::Running
+}
+
 impl Machine {
     // The record with every number 0.
     pub fn zero() -> Machine
@@ -43,6 +54,21 @@ impl Machine {
                 status: Status::Idle,
             }; 8],
         }
+    }
+
+    // The record that a mask starts: its threads running, and 7 last.
+    pub fn started(mask: u8) -> Machine
+        ensures { λ r. ⌜ r ≡ start mask ⌝ }
+    {
+        let mut machine = Machine::zero();
+        machine.enabled = mask;
+        machine.last = 7;
+        for t in 0..8usize {
+            let entry = machine.threads[t];
+            let next = entry.with_status(start_status(mask, t));
+            machine.threads[t] = next;
+        }
+        machine
     }
 
     // The status of a thread; idle where there is no such thread.

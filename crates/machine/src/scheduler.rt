@@ -1,10 +1,11 @@
 // The scheduler: which thread is issued next.
 ghost use mathlib.Core.Path.{_≡_};
 ghost use Rattle.machine.specs.Machine.{threadNumbers};
-ghost use Rattle.machine.specs.Scheduler.{runs, choose};
+ghost use Rattle.machine.specs.Scheduler.{runs, choose, someWaits};
 ghost use Rattle.machine.specs.Search.{bits};
 use crate::record::Machine;
 use crate::status::is_running;
+use crate::status::is_waiting;
 
 // The thread to issue, and its distance from "last", 1 to 8.
 pub enum Choice {
@@ -32,6 +33,20 @@ impl Machine {
             }
         }
         mask
+    }
+
+    // Whether a thread waits: what tells a stuck machine from a stopped one.
+    pub fn some_waits(self) -> bool
+        ensures { λ r. ⌜ r ≡ someWaits self ⌝ }
+    {
+        for t in 0..8usize {
+            let entry = self.threads[t];
+            let status = entry.status;
+            if is_waiting(status) {
+                return true;
+            }
+        }
+        false
     }
 
     // The first running thread after "last", going round upwards.

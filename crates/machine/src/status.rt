@@ -1,7 +1,7 @@
 // A thread's entry: its status, with what that status carries.
 ghost use mathlib.Core.Path.{_≡_};
 ghost use Rattle.machine.specs.Machine.{withStatus};
-ghost use Rattle.machine.specs.Status.{isIdle, isRunning, waitsAt, waitsOtherwise, carriesInRange};
+ghost use Rattle.machine.specs.Status.{isIdle, isRunning, isWaiting, waitsAt, waitsOtherwise, carriesInRange};
 
 // Trapped carries a reason; Waiting carries a barrier id and a count.
 pub enum Status {
@@ -37,6 +37,18 @@ pub fn is_running(status: Status) -> bool
         Status::Ended => false,
         Status::Trapped(_) => false,
         Status::Waiting(_, _) => false,
+    }
+}
+
+pub fn is_waiting(status: Status) -> bool
+    ensures { λ r. ⌜ r ≡ isWaiting status ⌝ }
+{
+    match status {
+        Status::Idle => false,
+        Status::Running => false,
+        Status::Ended => false,
+        Status::Trapped(_) => false,
+        Status::Waiting(_, _) => true,
     }
 }
 

@@ -5,7 +5,8 @@ use lib.ListN.{length}
 use Rattle.answer.specs.Refusal.{numbered}
 use Rattle.machine.specs.State.{state}
 use Rattle.interpreter.specs.Run.{run}
-use Rattle.capi.specs.Refusal.{lengthChecks, lengthsNumber, runNumber}
+use Rattle.answer.specs.Refusal.{lengthChecks, lengthsNumber}
+use Rattle.capi.specs.Refusal.{runNumber}
 use Rattle.capi.specs.Runs.{ran, runCall}
 use Rattle.capi.proofs.Handed.{run-handed}
 use Rattle.capi.proofs.Verdicts.{in-order, machine-is}

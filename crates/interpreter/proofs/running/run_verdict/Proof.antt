@@ -1,39 +1,23 @@
--- `running::run_verdict` meets its contract.
+-- `running::run_verdict` meets its contract: the two verdicts in order are the checks in order.
+use mathlib.Core.Option.{some}
+use mathlib.Core.Path.{sym, _∙_}
+use Rattle.answer.proofs.Checks.{first-after}
+use Rattle.answer.specs.Refusal.{lengthChecks, lengthsNumber, refusedOr}
+use Rattle.interpreter.specs.Refusal.{recordChecks, recordNumber, runNumber}
 use borrow.Author.Needs.{needs}
-use Rattle.answer.specs.Refusal.{firstThatApplies}
-use Rattle.interpreter.specs.Refusal.{runNumber}
 use Rattle.interpreter.proofs.running.run_verdict.Statement.{statement}
 use Rattle.interpreter.proofs.running.run_verdict.Tie as tie
 
 pub run-verdict-spec : {M : Type 1} → statement M
-unfolding runNumber firstThatApplies
+unfolding runNumber lengthsNumber recordNumber
 run-verdict-spec =
     tie.close
     (tie.spec
     (λ c κs. search needs)
     (λ c κs. search needs)
     (λ c κs. search needs)
-    (λ c κs. search needs)
-    (λ c. rw (← c .before .before .before .before .bad-program .ensures, c .if1 .taken))
-    (λ c. rw (← c .before .before .before .before .before .bad-program .ensures, c .before .if1 .left, ← c .before .before .before .before .bad-registers .ensures, c .if2 .taken))
-    (λ c. rw (← c .before .before .before .before .before .before .bad-program .ensures, c .before .before .if1 .left, ← c .before .before .before .before .before .bad-registers .ensures, c .before .if2 .left, ← c .before .before .before .before .bad-memory .ensures, c .if3 .taken))
-    (λ c. rw (
-      ← c .before .before .before .before .before .before .before .bad-program .ensures,
-      c .before .before .before .if1 .left,
-      ← c .before .before .before .before .before .before .bad-registers .ensures,
-      c .before .before .if2 .left,
-      ← c .before .before .before .before .before .bad-memory .ensures,
-      c .before .if3 .left,
-      ← c .before .before .before .before .well-formed .ensures,
-      c .if4 .taken,
-    ))
-    (λ c. rw (
-      ← c .before .before .before .before .before .before .before .bad-program .ensures,
-      c .before .before .before .if1 .left,
-      ← c .before .before .before .before .before .before .bad-registers .ensures,
-      c .before .before .if2 .left,
-      ← c .before .before .before .before .before .bad-memory .ensures,
-      c .before .if3 .left,
-      ← c .before .before .before .before .well-formed .ensures,
-      c .if4 .left,
-    )))
+    (λ c.
+    let a = c .before .before .before .args in
+    c .first-refusal .ensures
+    ∙ (λ i. refusedOr (c .before .before .lengths-verdict .ensures i) some (c .before .record-verdict .ensures i))
+    ∙ sym (first-after (lengthChecks (a .words) (a .room) (a .bytes)) (recordChecks (a .machine)))))

@@ -18,8 +18,8 @@ set-masks-requires c κs =
     let k = start-taken _ _ (sym (c .before .before .before .before .before .before .before .start-verdict .ensures) ∙ ap numbered (c .before .before .before .before .before .enum-told .given .1)) in
     omega (arith, k .registers, c .before .before .before .clear .kept .0)
 
-cast-start-record : tie.Need-cast-start-record
-cast-start-record c =
+cast-started : tie.Need-cast-started
+cast-started c =
     let k = start-taken _ _ (sym (c .before .before .before .before .before .before .before .before .before .before .start-verdict .ensures) ∙ ap numbered (c .before .before .before .before .before .before .before .before .enum-told .given .1)) in
     omega (arith, k .high)
 
@@ -37,7 +37,7 @@ returns-2 c =
     let a = c .before .before .before .before .before .before .before .before .before .before .before .before .before .args in
     let e : startNumber (a .mask) (length (a .registers .now)) ≡ none = sym (c .before .before .before .before .before .before .before .before .before .before .before .start-verdict .ensures) ∙ ap numbered (c .before .before .before .before .before .before .before .before .before .enum-told .given .1) in
     let room = c .before .before .before .set-masks .ensures ∙ ap (withMasks 8) (c .before .before .before .before .before .before .before .clear .ensures) in
-    (λ i. record { answer = given tt; machine = c .start-record .ensures i; registers = room i }) ∙ start-accepted (a .mask) (a .registers .now) e
+    (λ i. record { answer = given tt; machine = c .started .ensures i; registers = room i }) ∙ start-accepted (a .mask) (a .registers .now) e
 
 pub start-spec : {M : Type 1} → statement M
 start-spec =
@@ -49,7 +49,7 @@ start-spec =
     (λ c. search needs)
     (λ c κs. search needs)
     set-masks-requires
-    cast-start-record
+    cast-started
     (λ c κs. search needs)
     returns
     (λ c. search needs)

@@ -1,14 +1,14 @@
--- `starting::start_record` meets its contract.
+-- `started` meets its contract.
 use Prim.Native.Nat.{ℕ, _-_, _≤_}
 use mathlib.Core.Path.{_≡_, ap, _∙_}
 use native.Mathlib.Omega.{arith}
 use borrow.Author.Needs.{needs}
 use lib.ListN.{replicate}
 use Rattle.machine.specs.Machine.{zeroThread, startStatus, start, withStatusAt}
-use Rattle.interpreter.specs.Types.{Machine}
+use Rattle.machine.specs.Types.{Machine}
 use Rattle.machine.proofs.Loops.{restated, restatedTo, restate}
-use Rattle.interpreter.proofs.starting.start_record.Statement.{statement}
-use Rattle.interpreter.proofs.starting.start_record.Tie as tie
+use Rattle.machine.proofs.record.Machine.started.Statement.{statement}
+use Rattle.machine.proofs.record.Machine.started.Tie as tie
 
 -- the record before any thread is started
 abbrev idle : ℕ → Machine
@@ -26,10 +26,11 @@ loop-holds c = (omega arith, ap (λ (m : Machine). record { enabled = c .before 
 
 loop-again : tie.Need-loop-again Inv-loop μ-loop
 loop-again c =
-    let l = c .before .before .loop in
-    let mask = c .before .before .before .before .args .mask in (
+    let l = c .before .before .before .before .loop in
+    let mask = c .before .before .before .before .before .before .args .mask in (
       omega arith,
-      (λ j. withStatusAt (l .inv .1 j) (l .t) (c .start-status .ensures j)) ∙ restate (startStatus mask) (idle mask) (l .t) (omega arith),
+      rw (c .with-status .ensures, c .before .start-status .ensures)
+          ((λ j. withStatusAt (l .inv .1 j) (l .t) (startStatus mask (l .t))) ∙ restate (startStatus mask) (idle mask) (l .t) (omega arith)),
     )
 
 returns : tie.Need-returns Inv-loop μ-loop
@@ -40,8 +41,21 @@ returns c =
     let e : l .t ≡ 8 = omega arith in
     l .inv .1 ∙ ap (restatedTo (startStatus mask) (idle mask)) e
 
-pub start-record-spec : {M : Type 1} → statement M
-start-record-spec =
+pub started-spec : {M : Type 1} → statement M
+started-spec =
     tie.close
-    (tie.spec Inv-loop μ-loop (λ c κs. search needs) loop-holds (λ c κs. search needs) (λ c. search needs) (λ c. search needs)
-    (λ c. omega arith) (λ c. omega arith) loop-again returns)
+    (tie.spec
+    Inv-loop
+    μ-loop
+    (λ c κs. search needs)
+    loop-holds
+    (λ c. search needs)
+    (λ c. search needs)
+    (λ c κs. search needs)
+    (λ c κs. search needs)
+    (λ c. search needs)
+    (λ c. search needs)
+    (λ c. omega arith)
+    (λ c. omega arith)
+    loop-again
+    returns)

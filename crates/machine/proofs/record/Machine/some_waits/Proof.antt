@@ -1,20 +1,16 @@
--- `running::some_waits` meets its contract.
+-- `some_waits` meets its contract.
 use Prim.Native.Nat.{ℕ, _-_}
 use mathlib.Core.Path.{sym, _∙_}
 use mathlib.Core.Bool.{Bool}
 use native.Mathlib.Omega.{arith}
 use borrow.Author.Needs.{needs}
 use Rattle.machine.specs.Machine.{statusAt}
 use Rattle.machine.specs.Status.{isWaiting}
-use Rattle.machine.specs.Scheduler.{someWaits}
+use Rattle.machine.specs.Scheduler.{waits, someWaits}
 use Rattle.machine.proofs.Loops.{Searching, search-start, search-found, search-on, search-done}
-use Rattle.interpreter.specs.Types.{Machine}
-use Rattle.interpreter.proofs.running.some_waits.Statement.{statement}
-use Rattle.interpreter.proofs.running.some_waits.Tie as tie
-
--- thread u waits
-abbrev waits : Machine → ℕ → Bool
-waits m u = isWaiting (statusAt m u)
+use Rattle.machine.specs.Types.{Machine}
+use Rattle.machine.proofs.record.Machine.some_waits.Statement.{statement}
+use Rattle.machine.proofs.record.Machine.some_waits.Tie as tie
 
 abbrev Inv-loop : tie.InvT-loop
 Inv-loop machine t₀ t = Searching (waits machine) t

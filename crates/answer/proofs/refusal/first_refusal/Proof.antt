@@ -1,7 +1,7 @@
--- `first_refusal` meets its contract: by the first verdict.
+-- `refusal::first_refusal` meets its contract: by the first verdict.
 use borrow.Author.Needs.{needs}
-use Rattle.capi.proofs.numbers.first_refusal.Statement.{statement}
-use Rattle.capi.proofs.numbers.first_refusal.Tie as tie
+use Rattle.answer.proofs.refusal.first_refusal.Statement.{statement}
+use Rattle.answer.proofs.refusal.first_refusal.Tie as tie
 
 pub first-refusal-spec : {M : Type 1} → statement M
 first-refusal-spec =

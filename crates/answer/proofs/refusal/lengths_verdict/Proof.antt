@@ -1,9 +1,8 @@
--- `lengths_verdict` meets its contract: by the first check that applies.
-use Rattle.answer.specs.Refusal.{firstThatApplies}
-use Rattle.capi.specs.Refusal.{lengthsNumber}
+-- `refusal::lengths_verdict` meets its contract: by the first check that applies.
+use Rattle.answer.specs.Refusal.{firstThatApplies, lengthsNumber}
 use borrow.Author.Needs.{needs}
-use Rattle.capi.proofs.runs.lengths_verdict.Statement.{statement}
-use Rattle.capi.proofs.runs.lengths_verdict.Tie as tie
+use Rattle.answer.proofs.refusal.lengths_verdict.Statement.{statement}
+use Rattle.answer.proofs.refusal.lengths_verdict.Tie as tie
 
 pub lengths-verdict-spec : {M : Type 1} → statement M
 unfolding lengthsNumber firstThatApplies
