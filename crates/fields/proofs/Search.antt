@@ -76,8 +76,8 @@ unfolding HasWord Numbered Exact
 found-is n h e =
     let m = matched-is n (wordOf n) (read (wordOf n)) h e in
     let b = word-below n in
-    let own : n ≡ instructionNumbers (h .instruction) = sym (same (numbersOf (wordOf n)) n (m .2)) ∙ numbered (wordOf n) (h .instruction) b (m .0) in
-    has-word n (h .word) (h .instruction) .1 (own, rw (← m .1) (exact (wordOf n) (h .instruction) b .0 (m .0)))
+    let its = sym (same (numbersOf (wordOf n)) n (m .2)) ∙ numbered (wordOf n) (h .instruction) b (m .0) in
+    has-word n (h .word) (h .instruction) .1 (its, rw (← m .1) (exact (wordOf n) (h .instruction) b .0 (m .0)))
 
 -- and that word is found
 
@@ -122,7 +122,8 @@ written-six : (o : Option Instruction) → Six (written o)
 written-six none = refl
 written-six (some i) = write-six i
 
-same-answer : (x y : Answer Held) → Six x → Six y → ((h : Held) → x ≡ given h → y ≡ given h) → ((h : Held) → y ≡ given h → x ≡ given h) → x ≡ y
+same-answer : (x y : Answer Held) → Six x → Six y →
+    ((h : Held) → x ≡ given h → y ≡ given h) → ((h : Held) → y ≡ given h → x ≡ given h) → x ≡ y
 same-answer (given h) y p q f g = sym (f h refl)
 same-answer (refused m) (given h) p q f g = g h refl
 same-answer (refused m) (refused n) p q f g = ap refused (p ∙ sym q)

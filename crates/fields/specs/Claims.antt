@@ -1,4 +1,4 @@
--- What is proved of the six numbers: they are an instruction's, and have the word that it is written as; reading and writing belong together.
+-- What is proved of the six numbers: they are an instruction's, and have its word; reading and writing belong together.
 use Prim.Native.Nat.{ℕ, _<_, _^_}
 use mathlib.Core.Logic.{_↔_}
 use mathlib.Core.Option.{some}

@@ -80,7 +80,9 @@ everyBelow (suc n) p = everyBelow n p && p n
 below : (n : ℕ) (p : ℕ → Bool) → everyBelow n p ≡ true → (k : ℕ) → k < n → p k ≡ true
 unfolding everyBelow
 below zero p e k h = absurd (omega arith)
-below (suc n) p e k h = below-more (λ k. p k ≡ true) n (below n p (and-left (everyBelow n p) (p n) e)) (and-right (everyBelow n p) (p n) e) k (omega arith)
+below (suc n) p e k h =
+    let first = below n p (and-left (everyBelow n p) (p n) e) in
+    below-more (λ k. p k ≡ true) n first (and-right (everyBelow n p) (p n) e) k (omega arith)
 
 same : (a b : Bool) → Bool·beq a b ≡ true → a ≡ b
 same true true e = refl

@@ -45,7 +45,8 @@ back : (n : ℕ) (m : List ℕ) (a w : ℕ) → a + n ≤ length m → numberAt 
 unfolding numberAt withNumber
 back zero m a w h = sym (mod-one w)
 back (suc n) m a w h =
-    let own = other-byte n (set m a (w % 2 ^ 8)) (a + 1) (w / 2 ^ 8) a (λ p q. omega arith) ∙ getD-set-same m a (w % 2 ^ 8) 0 (omega arith) in
+    let stays = other-byte n (set m a (w % 2 ^ 8)) (a + 1) (w / 2 ^ 8) a (λ p q. omega arith) in
+    let own = stays ∙ getD-set-same m a (w % 2 ^ 8) 0 (omega arith) in
     let rest = back n (set m a (w % 2 ^ 8)) (a + 1) (w / 2 ^ 8) (omega (arith, length-set m a (w % 2 ^ 8))) in
     let sum = mod-pow-add w (8 * n) 8 in
     let e : 8 * suc n ≡ 8 * n + 8 = omega arith in
@@ -87,7 +88,8 @@ module _ (m : List ℕ) (a mask : ℕ) (v : List ℕ) (room : a + 64 ≤ length 
   after-lanes n = each n lane-done m
 
   -- another lane stays,
-  other-lane : (t : Bool) (l : List ℕ) (k j w : ℕ) → (j ≡ k → ⊥) → numberAt 4 (cond t (withNumber 4 l (a + 4 * k) w) l) (a + 4 * j) ≡ numberAt 4 l (a + 4 * j)
+  other-lane : (t : Bool) (l : List ℕ) (k j w : ℕ) → (j ≡ k → ⊥)
+      → numberAt 4 (cond t (withNumber 4 l (a + 4 * k) w) l) (a + 4 * j) ≡ numberAt 4 l (a + 4 * j)
   other-lane true l k j w h = other-number 4 l (a + 4 * k) w (a + 4 * j) (λ p q. h (omega arith))
   other-lane false l k j w h = refl
 
@@ -106,14 +108,15 @@ module _ (m : List ℕ) (a mask : ℕ) (v : List ℕ) (room : a + 64 ≤ length 
   kept-lanes : (n : ℕ) → length (after-lanes n) ≡ length m
   kept-lanes n = kept-each n lane-done m (λ j l. kept-if (isOn mask j) _ l (kept-number 4 l (a + 4 * j) (lane v j)))
 
-  after-turn : (n j : ℕ) → j < n → j < 16 → lane v j < 2 ^ 32
-      → numberAt 4 (after-lanes n) (a + 4 * j) ≡ cond (isOn mask j) (lane v j) (numberAt 4 m (a + 4 * j))
+  abbrev Stored : ℕ → List ℕ → Type 0
+  Stored j l = numberAt 4 l (a + 4 * j) ≡ cond (isOn mask j) (lane v j) (numberAt 4 m (a + 4 * j))
+
+  after-turn : (n j : ℕ) → j < n → j < 16 → lane v j < 2 ^ 32 → Stored j (after-lanes n)
   unfolding each
   after-turn zero j h g b = absurd (omega arith)
   after-turn (suc n) j h g b = go (ltb j n) refl (λ l. after-turn n j l g b)
     where
-      go : (t : Bool) → ltb j n ≡ t → (j < n → numberAt 4 (after-lanes n) (a + 4 * j) ≡ cond (isOn mask j) (lane v j) (numberAt 4 m (a + 4 * j)))
-          → numberAt 4 (lane-done n (after-lanes n)) (a + 4 * j) ≡ cond (isOn mask j) (lane v j) (numberAt 4 m (a + 4 * j))
+      go : (t : Bool) → ltb j n ≡ t → (j < n → Stored j (after-lanes n)) → Stored j (lane-done n (after-lanes n))
       go true e ih =
           let l : j < n = ltb-true j n e in
           other-lane (isOn mask n) (after-lanes n) n j (lane v n) (λ i. omega arith) ∙ ih l
@@ -131,7 +134,8 @@ module _ (m : List ℕ) (base offset mask : ℕ) (v : List ℕ) (j : ℕ) (h : j
   lane-at l a = tab-lane 16 j (λ k. numberAt 4 l (a + 4 * k)) h
 
   gathered-back : (p : Attempt ℕ) → vectorPlace m base offset ≡ p → changed p m (λ a. withLanes m a mask v) .answer ≡ done tt
-      → lane (gathered (vectorPlace (stored p) base offset) (stored p) .lanes) j ≡ cond (isOn mask j) (lane v j) (lane (gathered p m .lanes) j)
+      → lane (gathered (vectorPlace (stored p) base offset) (stored p) .lanes) j
+      ≡ cond (isOn mask j) (lane v j) (lane (gathered p m .lanes) j)
   unfolding withLanes
   gathered-back (done a) e d =
       let r : a + 64 ≤ length m = within 64 64 (length m) (lifted base offset) e in

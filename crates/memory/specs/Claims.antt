@@ -57,7 +57,8 @@ pub record Rows : Type 0 where
 abbrev pub Gives : StoreOp → LoadOp → List ℕ → ℕ → ℕ → ℕ → ℕ → Type 0
 Gives s l m base offset v r = store s m base offset v .answer ≡ done tt → load l (store s m base offset v .memory) base offset ≡ done r
 
--- "0 load8, 1 load16 (sign kept), 2 load32, 4 load8u, 5 load16u", "32 store8, 33 store16, 34 store32": the value stored, as far as its bytes hold it
+-- "0 load8, 1 load16 (sign kept), 2 load32, 4 load8u, 5 load16u", "32 store8, 33 store16, 34 store32": the value stored, as far as its
+-- bytes hold it
 pub record LoadsBack (m : List ℕ) (base offset v : ℕ) : Type 0 where
   pub signed8 : Gives Store8 Load8 m base offset v (unary Sext8 v)
   pub signed16 : Gives Store16 Load16 m base offset v (unary Sext16 v)
@@ -68,7 +69,7 @@ pub record LoadsBack (m : List ℕ) (base offset v : ℕ) : Type 0 where
 abbrev pub LoadAfterStore : Type 0
 LoadAfterStore = (m : List ℕ) (base offset v : ℕ) → LoadsBack m base offset v
 
--- "Vector forms touch lanes that are on": lane j loaded after a vector store is the one stored where it is on, and else the one that was there
+-- "Vector forms touch lanes that are on": lane j loaded after a vector store is the one stored if it is on, and else the one there before
 abbrev pub LanesAfterStore : Type 0
 LanesAfterStore = (m : List ℕ) (base offset mask : ℕ) (v : List ℕ) (j : ℕ) → storeLanes m base offset mask v .answer ≡ done tt
     → j < 16 → lane v j < 2 ^ 32
