@@ -2,10 +2,10 @@
 
 use crate::library::{self, record_bytes, zero_bytes};
 use crate::random::Random;
-use crate::records::{any_record, damaged, Verdicts};
+use crate::records::{any_record, damaged, stand_in, Verdicts};
 use crate::report::{same, Tally};
 use reference::image;
-use reference::machine::{start, ROOM_WORDS, ZERO};
+use reference::machine::{start, Record, ROOM_WORDS};
 
 pub fn both_ways(seed: u64, verdicts: &Verdicts, tally: &mut Tally) {
     let mut random = Random::new(seed ^ 0x496D_6167);
@@ -16,15 +16,16 @@ pub fn both_ways(seed: u64, verdicts: &Verdicts, tally: &mut Tally) {
     let room: Vec<u32> = (0..words).map(|i| i as u32 ^ seed as u32).collect();
     let record = any_record(&mut random);
     let opening = damaged(&mut random, record_bytes(&record));
-    write(&mut random, &room, &memory, &opening, verdicts, tally);
+    write(&mut random, &room, &memory, &record, &opening, verdicts, tally);
     read(&mut random, seed, room, memory, &opening, tally);
 }
 
-fn write(random: &mut Random, room: &[u32], memory: &[u8], opening: &[u8; 60], verdicts: &Verdicts, tally: &mut Tally) {
+fn write(random: &mut Random, room: &[u32], memory: &[u8], record: &Record, opening: &[u8; 60], verdicts: &Verdicts, tally: &mut Tally) {
     let length = image::length(memory.len()) + if random.one_in(30) { 1 } else { 0 };
     let (mut buffer, mut buffer2) = (vec![5; length], vec![5; length]);
     let verdict = verdicts.of(opening);
-    let written = image::write(room, memory, &verdict.unwrap_or(ZERO), &mut buffer).err().unwrap_or(0) as u32;
+    let taken = verdict.unwrap_or(stand_in(record, opening));
+    let written = image::write(room, memory, &taken, &mut buffer).err().unwrap_or(0) as u32;
     // the second program finds a record that is not to be taken last, whatever is wrong with it
     let expected = if written == 4 { verdict.err().unwrap_or(4) } else { written };
     let number = library::image_write(room, memory, opening, &mut buffer2);

@@ -1,5 +1,6 @@
-//! Compares the proved C library with the second program, on random and hostile input by fixed seeds: whole states and not samples
-//! of them. Prints what was compared, and at a difference its seed, what each side gave, and a listing. REPEAT=n takes n times as many seeds.
+//! Compares the proved C library with the second program, on every upper half word and on random and hostile input by fixed seeds: whole
+//! states and not samples of them. Prints what was compared, and at a difference its seed, what each side gave, and a listing.
+//! Arguments name the parts to compare, none all but 'all-words'. REPEAT=x takes x times as many random seeds.
 
 mod images;
 mod library;
@@ -9,22 +10,41 @@ mod report;
 mod runs;
 mod words;
 
-use report::compare;
+use report::{compare, Tally};
+use std::ops::RangeInclusive;
+
+/// A part of the comparison: its name, what it compares, and the seeds of its cases.
+struct Part<'a> {
+    name: &'a str,
+    title: &'a str,
+    seeds: RangeInclusive<u64>,
+    case: &'a (dyn Fn(u64, &mut Tally) + Sync),
+}
 
 fn main() {
-    let repeat: u64 = std::env::var("REPEAT").ok().and_then(|x| x.parse().ok()).unwrap_or(1);
+    let repeat: f64 = std::env::var("REPEAT").map_or(1.0, |x| x.parse().expect("REPEAT is a number"));
+    let random = |seeds: u64| 1..=(seeds as f64 * repeat) as u64;
     // A difference is a panic, which the report prints with its seed.
     std::panic::set_hook(Box::new(|_| {}));
     let verdicts = records::Verdicts::new();
-    let same = [
-        compare("words read, named and written again", 0..=0xFFFF, words::reading),
-        compare("instructions written", 1..=1_000_000 * repeat, words::writing),
-        compare("lists of runs", 1..=1_000_000 * repeat, runs::lists),
-        compare("hostile records run, and starts", 1..=200_000 * repeat, |seed, tally| runs::refusals(seed, &verdicts, tally)),
-        compare("hostile records and images written and read", 1..=200_000 * repeat, |seed, tally| {
-            images::both_ways(seed, &verdicts, tally)
-        }),
+    let refusals = |seed, tally: &mut Tally| runs::refusals(seed, &verdicts, tally);
+    let images = |seed, tally: &mut Tally| images::both_ways(seed, &verdicts, tally);
+    let parts = [
+        Part { name: "words", title: "words read, named and written again", seeds: 0..=0xFFFF, case: &words::reading },
+        Part { name: "all-words", title: "all words read, named and written again", seeds: 0..=0xFFFF, case: &words::reading_all },
+        Part { name: "writing", title: "instructions written", seeds: 0..=words::FORMATS * words::OPCODES - 1, case: &words::writing },
+        Part { name: "runs", title: "lists of runs", seeds: random(2_000_000), case: &runs::lists },
+        Part { name: "refusals", title: "hostile records run, and starts", seeds: random(200_000), case: &refusals },
+        Part { name: "images", title: "hostile records and images written and read", seeds: random(200_000), case: &images },
     ];
+    let wanted: Vec<String> = std::env::args().skip(1).collect();
+    if let Some(name) = wanted.iter().find(|name| parts.iter().all(|part| part.name != **name)) {
+        eprintln!("compare: there is no part '{name}'");
+        std::process::exit(2);
+    }
+    let is_wanted = |part: &Part| if wanted.is_empty() { part.name != "all-words" } else { wanted.iter().any(|name| name == part.name) };
+    let same: Vec<bool> =
+        parts.iter().filter(|part| is_wanted(part)).map(|part| compare(part.title, part.seeds.clone(), part.case)).collect();
     let passed = same.iter().filter(|x| **x).count();
     println!("{passed} passed, {} failed", same.len() - passed);
     if passed < same.len() {

@@ -2,6 +2,10 @@
 
 use reference::word::{write, Instruction};
 
+/// The first of four registers that hold addresses, and of four that hold small numbers, of barriers and control registers.
+pub const ADDRESSES: u8 = 6;
+pub const NUMBERS: u8 = 10;
+
 /// A small generator (xorshift64*): the same numbers for the same seed on every machine.
 pub struct Random(u64);
 
@@ -41,6 +45,15 @@ impl Random {
             2 => 63,
             3 => self.below(64) as u8,
             _ => self.below(6) as u8,
+        }
+    }
+
+    /// A register from `first` on, four of which `Pair::started` gives values of one use; at times any other.
+    fn register_of_use(&mut self, first: u8) -> u8 {
+        if self.one_in(5) {
+            self.register()
+        } else {
+            first + self.below(4) as u8
         }
     }
 
@@ -86,30 +99,51 @@ impl Random {
         }
     }
 
-    /// A jump from word `at`, mostly to a word of the program.
+    /// A place that a jump or a program counter may be at: mostly a word of the program, often one near `at`, at times a byte that is none.
+    pub fn place(&mut self, words: u64, at: u64) -> i64 {
+        let end = 4 * words as i64;
+        match self.below(16) {
+            0 => self.of(&[-8, -4, -2, -1, 1, 2, 3, 65_532, 65_536, 65_540]),
+            1 => end + self.of(&[-4, -3, -2, -1, 0, 1, 2, 3, 4]),
+            2 => self.below(4 * words) as i64,
+            3..=8 => 4 * (at + self.below(16)).saturating_sub(8).min(words - 1) as i64,
+            _ => 4 * self.below(words) as i64,
+        }
+    }
+
+    /// A jump from word `at`.
     fn j(&mut self, words: u64, at: u64) -> Instruction {
         let opcode = self.of(&[0, 1, 2, 5, 6, 5, 6]);
-        let target = if self.one_in(12) { self.below(4 * words + 8) as i32 - 4 } else { 4 * self.below(words) as i32 };
+        let far = self.of(&[-131_072, -131_068, 131_068, 131_071]);
+        let near = self.place(words, at) as i32 - 4 * at as i32;
         let register = if opcode >= 5 { self.register() } else { 0 };
-        let offset = if opcode == 2 { 0 } else { target - 4 * at as i32 };
+        let offset = if opcode == 2 {
+            0
+        } else if self.one_in(50) {
+            far
+        } else {
+            near
+        };
         Instruction::J { opcode, register, offset }
     }
 
     fn c(&mut self) -> Instruction {
         match self.below(9) {
             0 => Instruction::C { opcode: 2, first: 0, second: 0 },
-            n => Instruction::C { opcode: (n % 2) as u8, first: self.register(), second: self.register() },
+            n if n % 2 == 0 => Instruction::C { opcode: 0, first: self.register_of_use(NUMBERS), second: self.register_of_use(NUMBERS) },
+            _ => Instruction::C { opcode: 1, first: self.register(), second: self.register_of_use(NUMBERS) },
         }
     }
 
     fn m(&mut self) -> Instruction {
-        let offset = match self.below(3) {
-            0 => 0,
-            1 => 4 * (self.below(128) as i32 - 64),
-            _ => self.below(512) as i32 - 256,
-        };
         let opcode = self.of(&[0, 1, 2, 4, 5, 8, 32, 33, 34, 40]);
-        Instruction::M { opcode, register: self.register(), base: self.register(), offset }
+        let offset = match self.below(8) {
+            0 => self.below(512) as i32 - 256,
+            1 => 4 * (self.below(128) as i32 - 64),
+            2..=3 => 64 * (self.below(8) as i32 - 4),
+            _ => 0,
+        };
+        Instruction::M { opcode, register: self.register(), base: self.register_of_use(ADDRESSES), offset }
     }
 
     /// The word at place `at` of a program of so many words: nearly always one that is read.
@@ -132,17 +166,38 @@ impl Random {
         }
     }
 
+    /// A program: mostly of some words; at times a long one, whose first words repeat and whose last are made as those of a short one.
     pub fn program(&mut self) -> Vec<u32> {
-        let words = if self.one_in(50) { 1 + self.below(16384) } else { 1 + self.below(40) };
-        let mut program: Vec<u32> = (0..words).map(|at| self.instruction_word(words, at)).collect();
+        let any = 1 + self.below(16384);
+        let words = if self.one_in(25) { self.of(&[16384, 16384, 16383, any]) } else { 1 + self.below(40) };
+        let fresh = words.min(60);
+        let block: Vec<u32> = (0..fresh).map(|at| self.instruction_word(words, at)).collect();
+        let mut program: Vec<u32> = block.into_iter().cycle().take((words - fresh) as usize).collect();
+        program.extend((words - fresh..words).map(|at| self.instruction_word(words, at)));
+        if self.one_in(2) {
+            // so that a program is not left at its end
+            let offset = -4 * self.below(fresh) as i32;
+            program[words as usize - 1] = write(Instruction::J { opcode: 0, register: 0, offset }).expect("a word");
+        }
         for _ in 0..self.below(3) {
             let part = self.part();
-            if part.len() <= program.len() {
-                let at = self.below((program.len() - part.len() + 1) as u64) as usize;
+            if part.len() <= fresh as usize {
+                let at = program.len() - part.len() - self.below(fresh - part.len() as u64 + 1) as usize;
                 program[at..at + part.len()].copy_from_slice(&part);
             }
         }
         program
+    }
+
+    /// A program counter: mostly that of one of the last words.
+    pub fn counter(&mut self, words: usize) -> u32 {
+        let last = words as u64 - 1;
+        let at = last.saturating_sub(self.below(40));
+        if self.one_in(12) {
+            self.word() as u32
+        } else {
+            self.place(words as u64, at) as u32
+        }
     }
 
     /// Words that belong together: a barrier, where counts agree or go by the thread; a mask; a shuffle onto its own operands.
@@ -167,6 +222,12 @@ impl Random {
             }
         };
         part.into_iter().map(|i| write(i).expect("a word")).collect()
+    }
+
+    /// An address such as programs use: of a block, a word or a byte of memory.
+    pub fn address(&mut self, memory: usize) -> u32 {
+        let step = self.of(&[64, 64, 64, 4, 4, 1]);
+        step * self.below(memory as u64 / step as u64) as u32
     }
 
     /// A number such as programs use: small, aligned, an address near the memory's end, or anything.

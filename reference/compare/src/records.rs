@@ -1,9 +1,9 @@
 //! Machine records, well formed or not, and their bytes, whole or damaged.
 
-use crate::library::any_status;
+use crate::library::{any_status, record_bytes};
 use crate::random::Random;
 use reference::image;
-use reference::machine::{start, Record, Status, ROOM_WORDS};
+use reference::machine::{start, Record, Status, ROOM_WORDS, ZERO};
 
 /// A record with any numbers that its type can hold, or one that a run could reach.
 pub fn any_record(random: &mut Random) -> Record {
@@ -13,11 +13,13 @@ pub fn any_record(random: &mut Random) -> Record {
     for (t, status) in threads.iter_mut().enumerate() {
         if enabled >> t & 1 == 1 || random.one_in(40) {
             let kind = random.below(6);
+            let reason_or_id = if kind == 2 { random.below(8) as u8 } else { random.of(&[0, 0, 1, 31, 32]) };
             let other = random.below(10) as u8;
-            *status = any_status(kind, random.below(if kind == 2 { 8 } else { 3 }) as u8, if random.one_in(6) { other } else { count });
+            *status = any_status(kind, reason_or_id, if random.one_in(6) { other } else { count });
         }
     }
-    Record { enabled, last: if random.one_in(20) { random.word() as u8 } else { random.below(8) as u8 }, threads }
+    let last = if random.one_in(20) { random.of(&[8, 9, 255]) } else { random.below(8) as u8 };
+    Record { enabled, last, threads }
 }
 
 /// A record's bytes, half of the time with a few of them changed.
@@ -25,10 +27,19 @@ pub fn damaged(random: &mut Random, mut bytes: [u8; 60]) -> [u8; 60] {
     if random.one_in(2) {
         for _ in 0..1 + random.below(3) {
             let at = random.below(60) as usize;
-            bytes[at] = if random.one_in(2) { random.below(6) as u8 } else { random.word() as u8 };
+            bytes[at] = if random.one_in(2) { random.of(&[0, 1, 2, 3, 4, 5, 6, 7, 8, 9, 31, 32]) } else { random.word() as u8 };
         }
     }
     bytes
+}
+
+/// The record that the second program is given for bytes it can't take: the one that they were made of, if they say that still.
+pub fn stand_in(record: &Record, bytes: &[u8; 60]) -> Record {
+    if record_bytes(record) == *bytes {
+        *record
+    } else {
+        ZERO
+    }
 }
 
 /// What the second program says of a record's bytes: it reads them as those of an image that is right behind them.

@@ -1,5 +1,7 @@
 //! What a comparison met: cases, issues and numbers, or the first difference with its seed and its program.
 
+use reference::machine::{Record, Status};
+use reference::run::Ending;
 use std::any::Any;
 use std::cell::RefCell;
 use std::ops::RangeInclusive;
@@ -9,14 +11,34 @@ use std::thread::{available_parallelism, scope};
 
 #[derive(Default)]
 pub struct Tally {
-    pub cases: u64,
-    pub issues: u64,
+    cases: u64,
+    issues: u64,
     numbers: [u64; 11],
+    endings: [u64; 3],
+    traps: [u64; 7],
     /// The program of the case, for the listing of a difference.
-    pub program: RefCell<Vec<u32>>,
+    program: RefCell<Vec<u32>>,
 }
 
 impl Tally {
+    /// Keeps the words of the case.
+    pub fn show(&self, words: &[u32]) {
+        let mut program = self.program.borrow_mut();
+        program.clear();
+        program.extend_from_slice(words);
+    }
+
+    /// A run that was made: its issues, how it ended, and the reasons of the threads that it trapped.
+    pub fn ran(&mut self, issues: u32, ending: Ending, before: &Record, after: &Record) {
+        self.issues += issues as u64;
+        self.endings[ending as usize] += 1;
+        for (old, new) in before.threads.iter().zip(&after.threads) {
+            if let (true, Status::Trapped(reason)) = (old != new, new) {
+                self.traps[*reason as usize] += 1;
+            }
+        }
+    }
+
     /// One call compared, and the number that both sides gave.
     pub fn met(&mut self, number: u32) {
         self.cases += 1;
@@ -26,10 +48,12 @@ impl Tally {
 
 /// Panics with the first place where two lists differ.
 pub fn same<T: PartialEq + std::fmt::Debug>(what: &str, expected: &[T], found: &[T]) {
-    assert_eq!(expected.len(), found.len(), "{what}: length");
-    if let Some(i) = (0..found.len()).find(|i| expected[*i] != found[*i]) {
-        panic!("{what} {i}: the second program has {:?}, the library {:?}", expected[i], found[i]);
+    if expected == found {
+        return;
     }
+    assert_eq!(expected.len(), found.len(), "{what}: length");
+    let i = (0..found.len()).find(|i| expected[*i] != found[*i]).expect("a place that differs");
+    panic!("{what} {i}: the second program has {:?}, the library {:?}", expected[i], found[i]);
 }
 
 /// The program of a case, as a listing.
@@ -60,6 +84,27 @@ fn part(seeds: impl Iterator<Item = u64>, first: &AtomicU64, case: &impl Fn(u64,
     (tally, None)
 }
 
+/// What several tallies met in all.
+fn summary(tallies: &[&Tally]) -> String {
+    let sum = |of: &dyn Fn(&Tally) -> u64| tallies.iter().map(|tally| of(tally)).sum::<u64>();
+    let list = |what: &str, names: &[String], of: &dyn Fn(&Tally, usize) -> u64| {
+        let counts = names.iter().enumerate().map(|(i, name)| (name, sum(&|tally| of(tally, i))));
+        let met: Vec<String> = counts.filter(|(_, n)| *n > 0).map(|(name, n)| format!("{name}: {n}")).collect();
+        if met.is_empty() {
+            String::new()
+        } else {
+            format!("; {what}{}", met.join(", "))
+        }
+    };
+    let digits: Vec<String> = (0..11).map(|n| n.to_string()).collect();
+    let endings = ["stopped", "stuck", "spent"].map(String::from);
+    let issues = list("", &["issues".to_string()], &|tally, _| tally.issues);
+    let numbers = list("numbers ", &digits, &|tally, i| tally.numbers[i]);
+    let ended = list("", &endings, &|tally, i| tally.endings[i]);
+    let traps = list("traps ", &digits[..7], &|tally, i| tally.traps[i]);
+    format!("{} calls{numbers}{issues}{ended}{traps}", sum(&|tally| tally.cases))
+}
+
 /// Runs a comparison over its seeds, on every processor; whether no difference was met.
 pub fn compare(name: &str, seeds: RangeInclusive<u64>, case: impl Fn(u64, &mut Tally) + Sync) -> bool {
     let threads = available_parallelism().map_or(1, |n| n.get());
@@ -79,11 +124,7 @@ pub fn compare(name: &str, seeds: RangeInclusive<u64>, case: impl Fn(u64, &mut T
         print_program(&tally.program.borrow());
         return false;
     }
-    let sum = |of: &dyn Fn(&Tally) -> u64| parts.iter().map(|(tally, _)| of(tally)).sum::<u64>();
-    let numbers: Vec<String> =
-        (0..11).map(|n| (n, sum(&|t| t.numbers[n]))).filter(|(_, k)| *k > 0).map(|(n, k)| format!("{n}: {k}")).collect();
-    let made = sum(&|t| t.issues);
-    let issues = if made > 0 { format!(" of {made} issues") } else { String::new() };
-    println!("{name}: {} calls{issues}, numbers {}", sum(&|t| t.cases), numbers.join(", "));
+    let tallies: Vec<&Tally> = parts.iter().map(|(tally, _)| tally).collect();
+    println!("{name}: {}", summary(&tallies));
     true
 }

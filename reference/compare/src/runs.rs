@@ -1,10 +1,10 @@
 //! Starts and runs: whole states after each, on machines that must stay the same.
 
 use crate::library::{self, ending_number, record_bytes, zero_bytes};
-use crate::random::Random;
-use crate::records::{any_record, damaged, Verdicts};
+use crate::random::{Random, ADDRESSES, NUMBERS};
+use crate::records::{any_record, damaged, stand_in, Verdicts};
 use crate::report::{same, Tally};
-use reference::machine::{start, Record, ROOM_WORDS, ZERO};
+use reference::machine::{start, Record, Status, ROOM_WORDS, ZERO};
 use reference::run::run;
 
 /// Two machines that must stay the same: the second program's, and the library's.
@@ -33,6 +33,10 @@ impl Pair {
                     room[64 * t + i] = random.value(memory.len());
                 }
             }
+            for i in 0..4 {
+                room[64 * t + ADDRESSES as usize + i] = random.address(memory.len());
+                room[64 * t + NUMBERS as usize + i] = random.of(&[0, 1, 1, 2, 3, 6, 7, 9, 14, 31, 32]);
+            }
             for i in 0..48 {
                 room[512 + 1024 * t + i] = random.value(memory.len());
             }
@@ -49,26 +53,49 @@ impl Pair {
         same("memory byte", &self.memory, &self.memory2);
     }
 
+    /// Puts some threads' program counters anywhere, on both sides.
+    fn put_counters(&mut self, random: &mut Random, words: usize) {
+        for t in 0..8 {
+            if random.one_in(3) {
+                let counter = random.counter(words);
+                (self.room[64 * t + 63], self.room2[64 * t + 63]) = (counter, counter);
+            }
+        }
+    }
+
+    /// Makes some threads run again that do not, on both sides.
+    fn resume_threads(&mut self, random: &mut Random) {
+        for status in self.record.threads.iter_mut().filter(|s| **s != Status::Idle) {
+            if random.one_in(2) {
+                *status = Status::Running;
+            }
+        }
+        self.record2 = record_bytes(&self.record);
+    }
+
     /// One run on both sides.
     fn run(&mut self, program: &[u32], budget: u32, tally: &mut Tally) {
-        tally.program.replace(program.to_vec());
-        let mut result = [9; 2];
+        tally.show(program);
+        let (mut result, before) = ([9; 2], self.record);
         let (answer, made) = run(program, &mut self.room, &mut self.memory, &mut self.record, budget);
         let number = library::run(program, &mut self.room2, &mut self.memory2, &mut self.record2, budget, &mut result);
         match answer {
-            Ok(ending) => assert_eq!((number, result), (0, [ending_number(ending), made]), "budget {budget}"),
+            Ok(ending) => {
+                assert_eq!((number, result), (0, [ending_number(ending), made]), "budget {budget}");
+                tally.ran(made, ending, &before, &self.record);
+            }
             Err(n) => assert_eq!((number, result), (n as u32, [0, 0])),
         }
         self.same();
         same("record byte", &record_bytes(&self.record), &self.record2);
-        tally.issues += made as u64;
         tally.met(number);
     }
 
-    /// A run from bytes that are no record, of which the second program gives the number: nothing changes.
-    fn refused(&mut self, program: &[u32], bytes: [u8; 60], number: u32, tally: &mut Tally) {
-        let (answer, _) = run(program, &mut self.room, &mut self.memory, &mut ZERO.clone(), 1);
-        let expected = answer.err().filter(|n| *n != 4).map_or(number, |n| n as u32);
+    /// A run from bytes that are no record, of which the second program gives the number: nothing changes. It runs a stand-in for them.
+    fn refused(&mut self, program: &[u32], bytes: [u8; 60], mut stand_in: Record, number: u32, tally: &mut Tally) {
+        let (answer, _) = run(program, &mut self.room, &mut self.memory, &mut stand_in, 1);
+        let refusal = answer.expect_err("the second program ran from a record that it does not read") as u32;
+        let expected = if refusal == 4 { number } else { refusal };
         let (mut found, mut result) = (bytes, [9; 2]);
         let answered = library::run(program, &mut self.room2, &mut self.memory2, &mut found, 1, &mut result);
         assert_eq!((answered, result), (expected, [0, 0]), "record {bytes:?}");
@@ -89,11 +116,17 @@ pub fn lists(seed: u64, tally: &mut Tally) {
             _ => random.below(600),
         };
         let program = if random.one_in(20) { vec![0x7000_0000; random.of(&[0, 16385])] } else { random.program() };
+        if !program.is_empty() && (random.one_in(3) || program.len() > 60) {
+            pair.put_counters(&mut random, program.len());
+        }
+        if random.one_in(2) {
+            pair.resume_threads(&mut random);
+        }
         pair.run(&program, budget as u32, tally);
         if random.one_in(20) {
             let mut bytes = pair.record2;
             bytes[random.of(&[0, 1, 4, 6, 55])] ^= 1;
-            pair.refused(&program, bytes, 10, tally);
+            pair.refused(&program, bytes, ZERO, 10, tally);
         }
     }
 }
@@ -113,7 +146,7 @@ pub fn refusals(seed: u64, verdicts: &Verdicts, tally: &mut Tally) {
             pair.record = record;
             pair.run(&program, random.below(20) as u32, tally);
         }
-        Err(number) => pair.refused(&program, opening, number, tally),
+        Err(number) => pair.refused(&program, opening, stand_in(&record, &opening), number, tally),
     }
     let mask = random.of(&[0, 1, 255, 256, u32::MAX]);
     let mut record2 = [7; 60];
