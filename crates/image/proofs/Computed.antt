@@ -3,7 +3,7 @@ use mathlib.Core.Path.{refl}
 use Rattle.answer.specs.Refusal.{firstThatApplies}
 use Rattle.machine.specs.Machine.{allThreads, anyThread, countThreads, start}
 use Rattle.machine.specs.Search.{all, any, count}
-use Rattle.machine.specs.WellFormed.{numbersInRange, wellFormed}
+use Rattle.machine.specs.WellFormed.{numbersInRange, wellFormedWithin}
 use Rattle.image.specs.Bytes.{bytesOf}
 use Rattle.image.specs.Fields.{accepted, threadOf}
 use Rattle.image.specs.Image.{entryIn, threadsIn, machineIn, recordIn}
@@ -18,7 +18,7 @@ unfolding recordBytes joined sectionOf recordOf bytesOf
 bytes-hold = record { hd = λ m. refl; record-bytes = refl; sr = refl; vr = refl; mm = refl; word = refl }
 
 pub write-order : WriteOrder
-unfolding writeNumber firstThatApplies wellFormed numbersInRange allThreads anyThread countThreads all any count start
+unfolding writeNumber firstThatApplies wellFormedWithin numbersInRange allThreads anyThread countThreads all any count start
 write-order = record { room = refl; memory = refl; buffer = refl; not-well-formed = refl; taken = refl }
 
 pub read-order : ReadOrder
@@ -26,5 +26,5 @@ unfolding readNumber firstThatApplies headsIn headsOf allBelow standsAt startOf 
 read-order = record { room = refl; memory = refl; length = refl; marks = refl }
 
 pub opening-order : OpeningOrder
-unfolding openingNumber recordBytes joined sectionOf recordOf firstThatApplies headsOf allBelow standsAt startOf total recordIn entryIn threadsIn machineIn bodyAt threadOf accepted wellFormed numbersInRange allThreads anyThread countThreads all any count
+unfolding openingNumber recordBytes joined sectionOf recordOf firstThatApplies headsOf allBelow standsAt startOf total recordIn entryIn threadsIn machineIn bodyAt threadOf accepted wellFormedWithin numbersInRange allThreads anyThread countThreads all any count
 opening-order = record { taken = refl; not-well-formed = refl; not-carried = refl; marked = refl; out-of-place = refl }

@@ -17,7 +17,7 @@ use Rattle.machine.proofs.Tests.{both}
 use Rattle.image.specs.Fields.{fieldsOf}
 use Rattle.machine.specs.Machine.{zeroThread, statusAt, allThreads}
 use Rattle.machine.specs.Status.{carriesInRange}
-use Rattle.machine.specs.WellFormed.{numbersInRange, idleIfDisabled, countAgreed, fewerWait, wellFormed}
+use Rattle.machine.specs.WellFormed.{numbersInRange, idleIfDisabled, countAgreed, fewerWait, wellFormedWithin, wellFormed}
 use Rattle.image.specs.Bytes.{bytesOf, wordsOf}
 use Rattle.image.specs.Claims.{Words}
 use Rattle.image.specs.Image.{shapeOf, Lengths, bodyOf, image, fieldsIn, isEntry, entryOr, entryIn, threadsIn, machineIn, recordIn, roomIn, registersIn, memoryIn, stateIn}
@@ -35,7 +35,7 @@ use Rattle.image.proofs.Words.{words-back}
 
 module _ (m : Machine) (h : wellFormed m ≡ true) where
   in-range : numbersInRange m ≡ true
-  unfolding wellFormed
+  unfolding wellFormedWithin
   in-range =
       both (numbersInRange m) (allThreads (idleIfDisabled m))
       (both (numbersInRange m && allThreads (idleIfDisabled m)) (allThreads (countAgreed m))

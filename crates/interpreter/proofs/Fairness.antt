@@ -15,6 +15,7 @@ use Rattle.machine.proofs.Tests.{never}
 use Rattle.machine.specs.Claims.{FirstAfterLast}
 use Rattle.machine.specs.Machine.{bit, countThreads}
 use Rattle.machine.specs.Scheduler.{runs, after, choice}
+use Rattle.machine.specs.Status.{limits}
 use Rattle.machine.specs.WellFormed.{wellFormed}
 use Rattle.interpreter.specs.Choosing.{Issue, ifChosen, issued, issues, reached}
 use Rattle.interpreter.specs.Claims.{SomeEnabled, EightAtMost, Begun, RecordHandedOn, issuesOf, TurnsFair}
@@ -48,7 +49,7 @@ module _ (mask : ℕ) (p : List ℕ) (s : State) (f : Fit mask (s .machine)) (t 
   turn : IssueInTurn (isEnabled mask) (s .machine) (record { before = s; thread = t }) (issued p s t .machine)
   turn =
       let m = s .machine in
-      let w = tested m .0 (f .well-formed) in
+      let w = tested limits m .0 (f .well-formed) in
       let l : m .last < 8 = omega (arith, w .last-range) in
       let k = issued-sound p s t in
       record {
@@ -168,7 +169,7 @@ set-bit (suc n) mask a b = go (decLt mask (2 ^ n)) (set-bit n mask a)
 
 pub some-enabled : SomeEnabled
 some-enabled m w =
-    let r = tested m .0 w .mask-range in
+    let r = tested limits m .0 w .mask-range in
     let b = set-bit 8 (m .enabled) (r .0) (omega (arith, r .1)) in
     some-counted (isEnabled (m .enabled)) (b .0) (b .1) (eq-eqb _ _ (b .2))
 

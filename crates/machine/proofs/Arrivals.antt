@@ -11,7 +11,7 @@ use lib.ListN.{length, length-map, List·getD-map}
 use Rattle.machine.specs.Barrier.{released, release, releaseIfMet, arrive, refusesMeeting, meet}
 use Rattle.machine.specs.Claims.{WellFormed, Sound, Meets}
 use Rattle.machine.specs.Machine.{zeroThread, statusAt, bit, withStatus, withStatusAt, trap}
-use Rattle.machine.specs.Status.{isIdle, isRunning, isWaiting, waitsAt, carriesInRange}
+use Rattle.machine.specs.Status.{limits, isIdle, isRunning, isWaiting, waitsAt, carriesInRange}
 use Rattle.machine.specs.WellFormed.{waiting, disputed}
 use Rattle.machine.specs.Scheduler.{runs}
 use Rattle.machine.specs.Types.{Status, Idle, Running, Ended, Trapped, Waiting, Machine, Meeting}
@@ -75,7 +75,7 @@ module _ (m : Machine) (t id count : ℕ) where
           inl (e, cc, cc)
       at (no e) = inr (e, sym (set-other m t (Waiting id count) u e) ∙ h)
 
-  module _ (w : WellFormed m) (r : runs m t ≡ true) (fine : carriesInRange (Waiting id count) ≡ true) (agree : disputed m t id count ≡ false) where
+  module _ (w : WellFormed m) (r : runs m t ≡ true) (fine : carriesInRange limits (Waiting id count) ≡ true) (agree : disputed m t id count ≡ false) where
     here : t < length (m .threads)
     here = let l = running-thread m t w r in omega (arith, w .entries)
 
@@ -106,7 +106,7 @@ module _ (m : Machine) (t id count : ℕ) where
             let a = same (x .0) (y .0) (y .1) in
             let b = w .fewer (x .0) id (y .0) (y .1) in
             omega (arith, one-more)
-        go (no l) = omega (arith, one-more, l, waiting-ranges id count fine)
+        go (no l) = omega (arith, one-more, l, waiting-ranges limits id count fine)
 
     idle-met : (u : ℕ) → u < 8 → (statusAt met u ≡ Idle) ↔ (bit (m .enabled) u ≡ 0)
     idle-met u l = at (ℕ-discrete u t)
@@ -155,7 +155,7 @@ module _ (m : Machine) (t id count : ℕ) where
           entries = set-entries m t (Waiting id count) ∙ w .entries;
           reason-range = reasons-met;
           waiting-range = λ u i c e.
-              ⊎-elim (λ x. waiting-ranges i c (sym (λ j. carriesInRange (Waiting (x .1 j) (x .2 j))) ∙ fine)) (λ x. w .waiting-range u i c (x .1)) (who here u i c e);
+              ⊎-elim (λ x. waiting-ranges limits i c (sym (λ j. carriesInRange limits (Waiting (x .1 j) (x .2 j))) ∙ fine)) (λ x. w .waiting-range u i c (x .1)) (who here u i c e);
           idle = idle-met;
           agreed = agreed-met;
           fewer = fewer-met (omega (arith, at-most, more));
@@ -181,14 +181,14 @@ module _ (m : Machine) (t id count : ℕ) where
             was = ap (λ x. isIdle (statusAt m x)) e ∙ running-idle (statusAt m t) r;
             idle = ap isIdle g;
             waits = ap isWaiting g;
-            carried = ap carriesInRange g;
+            carried = ap (carriesInRange limits) g;
           })
       each u (no e) =
           let f : statusAt (release met id) u ≡ released id (statusAt m u) = release-status met id u ∙ ap (released id) (set-other m t (Waiting id count) u e) in
           ⊎-elim (λ x. inl (f ∙ x)) (λ x. inr (subst (Calm (statusAt m u)) (sym f) x)) (released-calm id (statusAt m u))
 
   -- the thread waits, or all that wait there run on
-  arrives : carriesInRange (Waiting id count) ≡ true → disputed m t id count ≡ false → Sound m t (arrive m t id count)
+  arrives : carriesInRange limits (Waiting id count) ≡ true → disputed m t id count ≡ false → Sound m t (arrive m t id count)
   unfolding releaseIfMet
   arrives fine agree = go (eqb (waiting met id) count) refl
     where
@@ -198,14 +198,14 @@ module _ (m : Machine) (t id count : ℕ) where
             enabled = release-enabled met id;
             last = release-last met id;
             running = λ u n e. ap isRunning (release-status met id u) ∙ released-running id (statusAt met u) (set-running m t (Waiting id count) u n e);
-            well-formed = λ e r. tested (release met id) .1 (resumed (tested m .0 e) r);
+            well-formed = λ e r. tested limits (release met id) .1 (resumed (tested limits m .0 e) r);
           }
       go false h =
           record {
             enabled = refl;
             last = refl;
             running = set-running m t (Waiting id count);
-            well-formed = λ e r. tested met .1 (settled (tested m .0 e) r fine agree (eqb-false (waiting met id) count h));
+            well-formed = λ e r. tested limits met .1 (settled (tested limits m .0 e) r fine agree (eqb-false (waiting met id) count h));
           }
 
 -- who arrives and is not refused does not trap

@@ -8,11 +8,11 @@ use native.Mathlib.Omega.{arith}
 use borrow.Author.Tests.{ltb-true, lt-ltb, leb-true, le-leb, eqb-true, eq-eqb, ne-eqb, not-true, not-false}
 use lib.Dec.{leb, ltb, eqb}
 use lib.ListN.{length, List·getD-eq-default}
-use Rattle.machine.specs.Claims.{WellFormed, Tested}
+use Rattle.machine.specs.Claims.{WellFormedWithin, Tested}
 use Rattle.machine.specs.Machine.{allThreads, zeroThread, statusAt, bit}
 use Rattle.machine.specs.Status.{isIdle, waitsOtherwise, carriesInRange, ifWaiting}
-use Rattle.machine.specs.WellFormed.{waiting, disputed, numbersInRange, idleIfDisabled, countAgreed, fewerWait, wellFormed}
-use Rattle.machine.specs.Types.{Status, Idle, Running, Ended, Trapped, Waiting, Machine}
+use Rattle.machine.specs.WellFormed.{waiting, disputed, numbersInRange, idleIfDisabled, countAgreed, fewerWait, wellFormedWithin}
+use Rattle.machine.specs.Types.{Limits, Status, Idle, Running, Ended, Trapped, Waiting, Machine}
 use Rattle.machine.proofs.Meetings.{disputes}
 use Rattle.machine.proofs.Tests.{never, both}
 use Rattle.machine.proofs.Threads.{all-at, all-threads, none-at, no-thread}
@@ -37,22 +37,25 @@ waiting-if (Trapped reason) f h = refl
 waiting-if (Waiting id count) f h = h id count refl
 
 -- a status whose numbers are in range
-in-range : (s : Status) → ((reason : ℕ) → s ≡ Trapped reason → (1 ≤ reason) × (reason ≤ 6))
-    → ((id count : ℕ) → s ≡ Waiting id count → (id ≤ 31) × (1 ≤ count) × (count ≤ 8)) → carriesInRange s ≡ true
-in-range Idle f g = refl
-in-range Running f g = refl
-in-range Ended f g = refl
-in-range (Trapped reason) f g = let r = f reason refl in rw (le-leb 1 reason (r .0), le-leb reason 6 (r .1))
-in-range (Waiting id count) f g = let r = g id count refl in rw (le-leb id 31 (r .0), le-leb 1 count (r .1), le-leb count 8 (r .2))
+module _ (l : Limits) where
+  in-range : (s : Status) → ((reason : ℕ) → s ≡ Trapped reason → (1 ≤ reason) × (reason ≤ l .reason))
+      → ((id count : ℕ) → s ≡ Waiting id count → (id ≤ l .barrier) × (1 ≤ count) × (count ≤ 8)) → carriesInRange l s ≡ true
+  in-range Idle f g = refl
+  in-range Running f g = refl
+  in-range Ended f g = refl
+  in-range (Trapped reason) f g = let r = f reason refl in rw (le-leb 1 reason (r .0), le-leb reason (l .reason) (r .1))
+  in-range (Waiting id count) f g =
+      let r = g id count refl in rw (le-leb id (l .barrier) (r .0), le-leb 1 count (r .1), le-leb count 8 (r .2))
 
-pub trapped-range : (reason : ℕ) → carriesInRange (Trapped reason) ≡ true → (1 ≤ reason) × (reason ≤ 6)
-trapped-range reason h = let x = both (leb 1 reason) (leb reason 6) h in (leb-true 1 reason (x .0), leb-true reason 6 (x .1))
+  pub trapped-range : (reason : ℕ) → carriesInRange l (Trapped reason) ≡ true → (1 ≤ reason) × (reason ≤ l .reason)
+  trapped-range reason h =
+      let x = both (leb 1 reason) (leb reason (l .reason)) h in (leb-true 1 reason (x .0), leb-true reason (l .reason) (x .1))
 
-pub waiting-ranges : (id count : ℕ) → carriesInRange (Waiting id count) ≡ true → (id ≤ 31) × (1 ≤ count) × (count ≤ 8)
-waiting-ranges id count h =
-    let x = both (leb id 31 && leb 1 count) (leb count 8) h in
-    let y = both (leb id 31) (leb 1 count) (x .0) in
-    (leb-true id 31 (y .0), leb-true 1 count (y .1), leb-true count 8 (x .1))
+  pub waiting-ranges : (id count : ℕ) → carriesInRange l (Waiting id count) ≡ true → (id ≤ l .barrier) × (1 ≤ count) × (count ≤ 8)
+  waiting-ranges id count h =
+      let x = both (leb id (l .barrier) && leb 1 count) (leb count 8) h in
+      let y = both (leb id (l .barrier)) (leb 1 count) (x .0) in
+      (leb-true id (l .barrier) (y .0), leb-true 1 count (y .1), leb-true count 8 (x .1))
 
 is-idle : (s : Status) → isIdle s ≡ true → s ≡ Idle
 is-idle Idle h = refl
@@ -72,16 +75,16 @@ same-beq true = refl
 same-beq false = refl
 
 -- the ranges
-record Ranges (m : Machine) : Type 0 where
+record Ranges (l : Limits) (m : Machine) : Type 0 where
   low : 1 ≤ m .enabled
   high : m .enabled ≤ 255
   last : m .last ≤ 7
   eight : length (m .threads) ≡ 8
-  carried : (t : ℕ) → t < 8 → carriesInRange (statusAt m t) ≡ true
+  carried : (t : ℕ) → t < 8 → carriesInRange l (statusAt m t) ≡ true
 
-ranges : (m : Machine) → numbersInRange m ≡ true → Ranges m
+ranges : (l : Limits) (m : Machine) → numbersInRange l m ≡ true → Ranges l m
 unfolding numbersInRange
-ranges m h =
+ranges l m h =
     let a = both (leb 1 (m .enabled) && leb (m .enabled) 255 && leb (m .last) 7 && eqb (length (m .threads)) 8) _ h in
     let b = both (leb 1 (m .enabled) && leb (m .enabled) 255 && leb (m .last) 7) _ (a .0) in
     let c = both (leb 1 (m .enabled) && leb (m .enabled) 255) _ (b .0) in
@@ -91,7 +94,7 @@ ranges m h =
       high = leb-true _ _ (d .1);
       last = leb-true _ _ (c .1);
       eight = eqb-true _ _ (b .1);
-      carried = all-at (λ t. carriesInRange (statusAt m t)) (a .1);
+      carried = all-at (λ t. carriesInRange l (statusAt m t)) (a .1);
     }
 
 -- a waiting status that does not wait otherwise has the count, and the other way round
@@ -135,51 +138,52 @@ module _ (m : Machine) where
           let a = at-thread (countAgreed m) e h t (Waiting id c) f refl in
           undisputed e t u id c d (not-true _ (if-waiting (statusAt m t) (λ id count. not (disputed m t id count)) a id c f)) x g
 
-  conditions : wellFormed m ≡ true → WellFormed m
-  unfolding wellFormed
+module _ (l : Limits) (m : Machine) where
+  conditions : wellFormedWithin l m ≡ true → WellFormedWithin l m
+  unfolding wellFormedWithin
   conditions h =
-      let a = both (numbersInRange m && allThreads (idleIfDisabled m) && allThreads (countAgreed m)) (allThreads (fewerWait m)) h in
-      let b = both (numbersInRange m && allThreads (idleIfDisabled m)) (allThreads (countAgreed m)) (a .0) in
-      let c = both (numbersInRange m) (allThreads (idleIfDisabled m)) (b .0) in
-      let r = ranges m (c .0) in
+      let a = both (numbersInRange l m && allThreads (idleIfDisabled m) && allThreads (countAgreed m)) (allThreads (fewerWait m)) h in
+      let b = both (numbersInRange l m && allThreads (idleIfDisabled m)) (allThreads (countAgreed m)) (a .0) in
+      let c = both (numbersInRange l m) (allThreads (idleIfDisabled m)) (b .0) in
+      let r = ranges l m (c .0) in
       record {
         mask-range = (r .low, r .high);
         last-range = r .last;
         entries = r .eight;
-        reason-range = λ t reason e. trapped-range reason (sym (ap carriesInRange e) ∙ r .carried t (is-thread m (r .eight) t (ap isIdle e)));
-        waiting-range = λ t id count e. waiting-ranges id count (sym (ap carriesInRange e) ∙ r .carried t (is-thread m (r .eight) t (ap isIdle e)));
-        idle = idle-exactly (c .1);
-        agreed = counts-agree (r .eight) (b .1);
+        reason-range = λ t reason e. trapped-range l reason (sym (ap (carriesInRange l) e) ∙ r .carried t (is-thread m (r .eight) t (ap isIdle e)));
+        waiting-range = λ t id count e. waiting-ranges l id count (sym (ap (carriesInRange l) e) ∙ r .carried t (is-thread m (r .eight) t (ap isIdle e)));
+        idle = idle-exactly m (c .1);
+        agreed = counts-agree m (r .eight) (b .1);
         fewer = λ t id count e.
-            ltb-true _ _ (if-waiting (statusAt m t) (λ id count. ltb (waiting m id) count) (at-thread (fewerWait m) (r .eight) (a .1) t (Waiting id count) e refl) id count e);
+            ltb-true _ _ (if-waiting (statusAt m t) (λ id count. ltb (waiting m id) count) (at-thread m (fewerWait m) (r .eight) (a .1) t (Waiting id count) e refl) id count e);
       }
 
-  in-ranges : WellFormed m → numbersInRange m ≡ true
+  in-ranges : WellFormedWithin l m → numbersInRange l m ≡ true
   unfolding numbersInRange
   in-ranges w =
       rw (le-leb 1 (m .enabled) (w .mask-range .0), le-leb (m .enabled) 255 (w .mask-range .1), le-leb (m .last) 7 (w .last-range), eq-eqb (length (m .threads)) 8 (w .entries))
-      (all-threads (λ t. carriesInRange (statusAt m t)) (λ t l. in-range (statusAt m t) (w .reason-range t) (w .waiting-range t)))
+      (all-threads (λ t. carriesInRange l (statusAt m t)) (λ t k. in-range l (statusAt m t) (w .reason-range t) (w .waiting-range t)))
 
-  idle-test : WellFormed m → (t : ℕ) → t < 8 → idleIfDisabled m t ≡ true
-  idle-test w t l = go (isIdle (statusAt m t)) refl
+  idle-test : WellFormedWithin l m → (t : ℕ) → t < 8 → idleIfDisabled m t ≡ true
+  idle-test w t k = go (isIdle (statusAt m t)) refl
     where
       go : (b : Bool) → isIdle (statusAt m t) ≡ b → Bool·beq b (eqb (bit (m .enabled) t) 0) ≡ true
-      go true e = rw (eq-eqb _ _ (w .idle t l .0 (is-idle (statusAt m t) e)))
-      go false e = rw (ne-eqb (bit (m .enabled) t) 0 (λ z. never (ap isIdle (w .idle t l .1 z)) e))
+      go true e = rw (eq-eqb _ _ (w .idle t k .0 (is-idle (statusAt m t) e)))
+      go false e = rw (ne-eqb (bit (m .enabled) t) 0 (λ z. never (ap isIdle (w .idle t k .1 z)) e))
 
-  agreed-test : WellFormed m → (t : ℕ) → t < 8 → countAgreed m t ≡ true
-  agreed-test w t l =
+  agreed-test : WellFormedWithin l m → (t : ℕ) → t < 8 → countAgreed m t ≡ true
+  agreed-test w t k =
       waiting-if (statusAt m t) (λ id count. not (disputed m t id count))
       (λ id count e. ap not (no-thread (disputes m t id count)
-      (λ u k. rw (waits-same id count (statusAt m u) (λ d f. w .agreed t u id count d e f)) (and-false (not (eqb u t))))))
+      (λ u n. rw (waits-same id count (statusAt m u) (λ d f. w .agreed t u id count d e f)) (and-false (not (eqb u t))))))
 
-  fewer-test : WellFormed m → (t : ℕ) → t < 8 → fewerWait m t ≡ true
-  fewer-test w t l = waiting-if (statusAt m t) (λ id count. ltb (waiting m id) count) (λ id count e. lt-ltb _ _ (w .fewer t id count e))
+  fewer-test : WellFormedWithin l m → (t : ℕ) → t < 8 → fewerWait m t ≡ true
+  fewer-test w t k = waiting-if (statusAt m t) (λ id count. ltb (waiting m id) count) (λ id count e. lt-ltb _ _ (w .fewer t id count e))
 
-  tests : WellFormed m → wellFormed m ≡ true
-  unfolding wellFormed
+  tests : WellFormedWithin l m → wellFormedWithin l m ≡ true
+  unfolding wellFormedWithin
   tests w =
       rw (in-ranges w, all-threads (idleIfDisabled m) (idle-test w), all-threads (countAgreed m) (agreed-test w), all-threads (fewerWait m) (fewer-test w))
 
 pub tested : Tested
-tested m = (conditions m, tests m)
+tested l m = (conditions l m, tests l m)

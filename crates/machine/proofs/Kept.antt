@@ -10,7 +10,7 @@ use lib.ListN.{length, getD, set, length-set, List·getD-eq-default}
 use lib.Seq.{getD-set-same, getD-set-other}
 use Rattle.machine.specs.Claims.{WellFormed, Sound, Traps, Ends, Issued, RunningEnabled}
 use Rattle.machine.specs.Machine.{zeroThread, statusAt, bit, withStatus, withStatusAt, trap, end}
-use Rattle.machine.specs.Status.{isIdle, isRunning, isWaiting, waitsAt, carriesInRange}
+use Rattle.machine.specs.Status.{limits, isIdle, isRunning, isWaiting, waitsAt, carriesInRange}
 use Rattle.machine.specs.WellFormed.{waiting}
 use Rattle.machine.specs.Scheduler.{runs, withLast}
 use Rattle.machine.specs.Types.{Status, Idle, Running, Ended, Trapped, Waiting, Machine}
@@ -42,7 +42,7 @@ pub record Calm (s r : Status) : Type 0 where
   pub was : isIdle s ≡ false
   pub idle : isIdle r ≡ false
   pub waits : isWaiting r ≡ false
-  pub carried : carriesInRange r ≡ true
+  pub carried : carriesInRange limits r ≡ true
 
 pub record Change (m n : Machine) : Type 0 where
   pub enabled : n .enabled ≡ m .enabled
@@ -78,7 +78,7 @@ module _ (m n : Machine) (w : WellFormed m) (c : Change m n) where
         last-range = c .last;
         entries = c .entries;
         reason-range = λ u reason e.
-            ⊎-elim (λ f. w .reason-range u reason (sym f ∙ e)) (λ k. trapped-range reason (sym (ap carriesInRange e) ∙ k .carried)) (c .each u);
+            ⊎-elim (λ f. w .reason-range u reason (sym f ∙ e)) (λ k. trapped-range limits reason (sym (ap (carriesInRange limits) e) ∙ k .carried)) (c .each u);
         waiting-range = λ u id count e. w .waiting-range u id count (waited u id count e);
         idle = idle-still;
         agreed = λ t u id a b e f. w .agreed t u id a b (waited t id a e) (waited u id b f);
@@ -113,9 +113,9 @@ pub running-thread : (m : Machine) (t : ℕ) → WellFormed m → runs m t ≡ t
 running-thread m t w r = is-thread m (w .entries) t (running-idle (statusAt m t) r)
 
 -- a running thread gets a status that is neither idle nor waiting
-calmed : (m : Machine) (t : ℕ) (s : Status) → isIdle s ≡ false → isWaiting s ≡ false → carriesInRange s ≡ true → Sound m t (withStatusAt m t s)
+calmed : (m : Machine) (t : ℕ) (s : Status) → isIdle s ≡ false → isWaiting s ≡ false → carriesInRange limits s ≡ true → Sound m t (withStatusAt m t s)
 calmed m t s idle waits carried =
-    record { enabled = refl; last = refl; running = set-running m t s; well-formed = λ h r. tested (withStatusAt m t s) .1 (still (tested m .0 h) r) }
+    record { enabled = refl; last = refl; running = set-running m t s; well-formed = λ h r. tested limits (withStatusAt m t s) .1 (still (tested limits m .0 h) r) }
   where
     each : WellFormed m → runs m t ≡ true → (u : ℕ) → Dec (u ≡ t)
         → (statusAt (withStatusAt m t s) u ≡ statusAt m u) ⊎ Calm (statusAt m u) (statusAt (withStatusAt m t s) u)
@@ -126,7 +126,7 @@ calmed m t s idle waits carried =
           was = ap (λ x. isIdle (statusAt m x)) e ∙ running-idle (statusAt m t) r;
           idle = ap isIdle f ∙ idle;
           waits = ap isWaiting f ∙ waits;
-          carried = ap carriesInRange f ∙ carried;
+          carried = ap (carriesInRange limits) f ∙ carried;
         })
     each w r u (no e) = inl (set-other m t s u e)
 
@@ -143,13 +143,13 @@ ends m t = calmed m t Ended refl refl refl
 
 pub issues : Issued
 issues m t l h =
-    let w = tested m .0 h in
-    tested (withLast m t) .1 (kept m (withLast m t) w (record { enabled = refl; last = omega arith; entries = w .entries; each = λ u. inl refl }))
+    let w = tested limits m .0 h in
+    tested limits (withLast m t) .1 (kept m (withLast m t) w (record { enabled = refl; last = omega arith; entries = w .entries; each = λ u. inl refl }))
 
 -- a running thread is enabled
 pub enabled : RunningEnabled
 enabled m t h r =
-    let w = tested m .0 h in
+    let w = tested limits m .0 h in
     let l = running-thread m t w r in
     let n : bit (m .enabled) t ≡ 0 → ⊥ = λ z. never (ap isIdle (w .idle t l .1 z)) (running-idle (statusAt m t) r) in
     (l, omega (arith, n))

@@ -10,7 +10,7 @@ use lib.Dec.{eqb}
 use lib.ListN.{length, getD}
 use Rattle.machine.specs.Claims.{Started}
 use Rattle.machine.specs.Machine.{zeroThread, statusAt, bit, withStatus, startStatus, start}
-use Rattle.machine.specs.Status.{isIdle, isRunning, isWaiting}
+use Rattle.machine.specs.Status.{limits, isIdle, isRunning, isWaiting}
 use Rattle.machine.specs.Types.{Status, Idle, Running, Trapped, Waiting, Thread}
 use Rattle.machine.proofs.Conditions.{is-thread, tested}
 use Rattle.machine.proofs.Loops.{from}
@@ -63,7 +63,7 @@ idle-exactly mask t l =
 
 pub started : Started
 started mask a b = (
-  tested (start mask) .1
+  tested limits (start mask) .1
       (record {
         mask-range = (omega (arith, start-mask mask), omega (arith, start-mask mask));
         last-range = start-last mask;

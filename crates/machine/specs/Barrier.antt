@@ -4,14 +4,14 @@ use mathlib.Core.Bool.{Bool, true, false, _||_, cond}
 use mathlib.Core.List.{map}
 use lib.Dec.{ltb, eqb}
 use Rattle.machine.specs.Machine.{withStatus, withStatusAt, trap}
-use Rattle.machine.specs.Status.{waitsAt}
+use Rattle.machine.specs.Status.{limits, waitsAt}
 use Rattle.machine.specs.Types.{Status, Running, Waiting, Machine, Meeting}
 use Rattle.machine.specs.WellFormed.{waiting, disputed}
 
 -- "Id above 31, second value above 7, or another thread waiting there with another count: trap 5."
 -- "0 barrier: id in the first, count less one in the second."
 unfoldable pub refusesMeeting : Machine → ℕ → ℕ → ℕ → Bool
-refusesMeeting m t id second = ltb 31 id || ltb 7 second || disputed m t id (second + 1)
+refusesMeeting m t id second = ltb (limits .barrier) id || ltb 7 second || disputed m t id (second + 1)
 
 -- "all of them are running": a status that waited there carries no id and no count any more
 abbrev pub released : ℕ → Status → Status

@@ -7,20 +7,21 @@ use lib.ListN.{length}
 use Rattle.machine.specs.Barrier.{meet}
 use Rattle.machine.specs.Machine.{statusAt, bit, trap, end, start}
 use Rattle.machine.specs.Scheduler.{runs, after, choice, withLast, issued, choose}
-use Rattle.machine.specs.Types.{Idle, Trapped, Waiting, Machine, Choice, Chosen, NoneRunning, Turn}
-use Rattle.machine.specs.WellFormed.{waiting, wellFormed}
+use Rattle.machine.specs.Status.{limits}
+use Rattle.machine.specs.Types.{Limits, Idle, Trapped, Waiting, Machine, Choice, Chosen, NoneRunning, Turn}
+use Rattle.machine.specs.WellFormed.{waiting, wellFormedWithin, wellFormed}
 
 -- Well-formedness.
 
 -- the conditions of document 01, one by one
-pub record WellFormed (m : Machine) : Type 0 where
+pub record WellFormedWithin (l : Limits) (m : Machine) : Type 0 where
   -- "enabled mask (1..255), last thread issued (0..7), and eight thread entries"
   pub mask-range : (1 ≤ m .enabled) × (m .enabled ≤ 255)
   pub last-range : m .last ≤ 7
   pub entries : length (m .threads) ≡ 8
   -- "trapped 3 with a reason 1..6, waiting 4 with barrier id 0..31 and a count 1..8"
-  pub reason-range : (t reason : ℕ) → statusAt m t ≡ Trapped reason → (1 ≤ reason) × (reason ≤ 6)
-  pub waiting-range : (t id count : ℕ) → statusAt m t ≡ Waiting id count → (id ≤ 31) × (1 ≤ count) × (count ≤ 8)
+  pub reason-range : (t reason : ℕ) → statusAt m t ≡ Trapped reason → (1 ≤ reason) × (reason ≤ l .reason)
+  pub waiting-range : (t id count : ℕ) → statusAt m t ≡ Waiting id count → (id ≤ l .barrier) × (1 ≤ count) × (count ≤ 8)
   -- "a thread is idle exactly if its enabled bit is 0"
   pub idle : (t : ℕ) → t < 8 → (statusAt m t ≡ Idle) ↔ (bit (m .enabled) t ≡ 0)
   -- "all threads waiting at one id name the same count"
@@ -28,9 +29,12 @@ pub record WellFormed (m : Machine) : Type 0 where
   -- "and fewer wait there than that count"
   pub fewer : (t id count : ℕ) → statusAt m t ≡ Waiting id count → waiting m id < count
 
+abbrev pub WellFormed : Machine → Type 0
+WellFormed m = WellFormedWithin limits m
+
 -- the test passes exactly if they hold
 abbrev pub Tested : Type 0
-Tested = (m : Machine) → (wellFormed m ≡ true) ↔ WellFormed m
+Tested = (l : Limits) (m : Machine) → (wellFormedWithin l m ≡ true) ↔ WellFormedWithin l m
 
 -- a running thread is one of the eight, and enabled
 abbrev pub RunningEnabled : Type 0
@@ -77,7 +81,7 @@ pub record Sound (m : Machine) (t : ℕ) (n : Machine) : Type 0 where
   pub well-formed : wellFormed m ≡ true → runs m t ≡ true → wellFormed n ≡ true
 
 abbrev pub Traps : Type 0
-Traps = (m : Machine) (t reason : ℕ) → 1 ≤ reason → reason ≤ 6 → Sound m t (trap m t reason)
+Traps = (m : Machine) (t reason : ℕ) → 1 ≤ reason → reason ≤ limits .reason → Sound m t (trap m t reason)
 
 abbrev pub Ends : Type 0
 Ends = (m : Machine) (t : ℕ) → Sound m t (end m t)

@@ -2,7 +2,7 @@
 use Prim.Native.Nat.{ℕ}
 use mathlib.Core.Bool.{Bool, true, false, _&&_, not}
 use lib.Dec.{leb, eqb}
-use Rattle.machine.specs.Types.{Status, Idle, Running, Ended, Trapped, Waiting}
+use Rattle.machine.specs.Types.{Limits, Status, Idle, Running, Ended, Trapped, Waiting}
 
 abbrev pub isIdle : Status → Bool
 isIdle Idle = true
@@ -41,13 +41,17 @@ waitsOtherwise barrier n Ended = false
 waitsOtherwise barrier n (Trapped reason) = false
 waitsOtherwise barrier n (Waiting id count) = eqb id barrier && not (eqb count n)
 
+-- "trapped 3 with a reason 1..6, waiting 4 with barrier id 0..31": the greatest that a record may hold
+abbrev pub limits : Limits
+limits = record { reason = 6; barrier = 31 }
+
 -- "trapped 3 with a reason 1..6, waiting 4 with barrier id 0..31 and a count 1..8"
-abbrev pub carriesInRange : Status → Bool
-carriesInRange Idle = true
-carriesInRange Running = true
-carriesInRange Ended = true
-carriesInRange (Trapped reason) = leb 1 reason && leb reason 6
-carriesInRange (Waiting id count) = leb id 31 && leb 1 count && leb count 8
+abbrev pub carriesInRange : Limits → Status → Bool
+carriesInRange l Idle = true
+carriesInRange l Running = true
+carriesInRange l Ended = true
+carriesInRange l (Trapped reason) = leb 1 reason && leb reason (l .reason)
+carriesInRange l (Waiting id count) = leb id (l .barrier) && leb 1 count && leb count 8
 
 -- what holds of a status if it is waiting, of its barrier id and its count
 abbrev pub ifWaiting : Status → (ℕ → ℕ → Bool) → Bool

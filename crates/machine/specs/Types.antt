@@ -2,6 +2,7 @@
 pub use Rattle.machine.specs.declared.status.Status.{Status}
 pub use Rattle.machine.specs.declared.status.Status.the-variants.{Idle, Running, Ended, Trapped, Waiting}
 pub use Rattle.machine.specs.declared.status.Thread.{Thread}
+pub use Rattle.machine.specs.declared.status.Limits.{Limits}
 pub use Rattle.machine.specs.declared.record.Machine.{Machine}
 pub use Rattle.machine.specs.declared.scheduler.Choice.{Choice}
 pub use Rattle.machine.specs.declared.scheduler.Choice.the-variants.{Chosen, NoneRunning}

@@ -4,8 +4,8 @@ use mathlib.Core.Bool.{Bool, _&&_, not, Bool·beq}
 use lib.Dec.{leb, ltb, eqb}
 use lib.ListN.{length}
 use Rattle.machine.specs.Machine.{allThreads, anyThread, countThreads, statusAt, bit}
-use Rattle.machine.specs.Status.{isIdle, waitsAt, waitsOtherwise, ifWaiting, carriesInRange}
-use Rattle.machine.specs.Types.{Machine}
+use Rattle.machine.specs.Status.{limits, isIdle, waitsAt, waitsOtherwise, ifWaiting, carriesInRange}
+use Rattle.machine.specs.Types.{Limits, Machine}
 
 -- how many threads wait at a barrier
 abbrev pub waiting : Machine → ℕ → ℕ
@@ -16,10 +16,10 @@ abbrev pub disputed : Machine → ℕ → ℕ → ℕ → Bool
 disputed m t id count = anyThread (λ u. not (eqb u t) && waitsOtherwise id count (statusAt m u))
 
 -- "enabled mask (1..255), last thread issued (0..7), and eight thread entries", each with what its status carries
-unfoldable pub numbersInRange : Machine → Bool
-numbersInRange m =
+unfoldable pub numbersInRange : Limits → Machine → Bool
+numbersInRange l m =
     leb 1 (m .enabled) && leb (m .enabled) 255 && leb (m .last) 7 && eqb (length (m .threads)) 8
-    && allThreads (λ t. carriesInRange (statusAt m t))
+    && allThreads (λ t. carriesInRange l (statusAt m t))
 
 -- "a thread is idle exactly if its enabled bit is 0"
 abbrev pub idleIfDisabled : Machine → ℕ → Bool
@@ -33,6 +33,9 @@ countAgreed m t = ifWaiting (statusAt m t) (λ id count. not (disputed m t id co
 abbrev pub fewerWait : Machine → ℕ → Bool
 fewerWait m t = ifWaiting (statusAt m t) (λ id count. ltb (waiting m id) count)
 
--- "A record is well formed when ..", and "well formed with its numbers in range"
-unfoldable pub wellFormed : Machine → Bool
-wellFormed m = numbersInRange m && allThreads (idleIfDisabled m) && allThreads (countAgreed m) && allThreads (fewerWait m)
+-- "A record is well formed when ..", and "well formed with its numbers in range": within the limits l
+unfoldable pub wellFormedWithin : Limits → Machine → Bool
+wellFormedWithin l m = numbersInRange l m && allThreads (idleIfDisabled m) && allThreads (countAgreed m) && allThreads (fewerWait m)
+
+abbrev pub wellFormed : Machine → Bool
+wellFormed m = wellFormedWithin limits m

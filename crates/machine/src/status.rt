@@ -1,7 +1,7 @@
 // A thread's entry: its status, with what that status carries.
 ghost use mathlib.Core.Path.{_≡_};
 ghost use Rattle.machine.specs.Machine.{withStatus};
-ghost use Rattle.machine.specs.Status.{isIdle, isRunning, isWaiting, waitsAt, waitsOtherwise, carriesInRange};
+ghost use Rattle.machine.specs.Status.{limits, isIdle, isRunning, isWaiting, waitsAt, waitsOtherwise, carriesInRange};
 
 // Trapped carries a reason; Waiting carries a barrier id and a count.
 pub enum Status {
@@ -14,6 +14,24 @@ pub enum Status {
 
 pub struct Thread {
     pub status: Status,
+}
+
+// The greatest trap reason and the greatest barrier id that a record may hold.
+pub struct Limits {
+    pub reason: u8,
+    pub barrier: u8,
+}
+
+impl Limits {
+    // What document 01 lets a record hold.
+    pub(crate) fn standard() -> Limits
+        ensures { λ r. ⌜ r ≡ limits ⌝ }
+    {
+        Limits {
+            reason: 6,
+            barrier: 31,
+        }
+    }
 }
 
 pub fn is_idle(status: Status) -> bool
@@ -79,15 +97,15 @@ pub fn waits_otherwise(status: Status, id: u8, count: u8) -> bool
 }
 
 // Whether the numbers that it carries are in range.
-pub fn carries_in_range(status: Status) -> bool
-    ensures { λ r. ⌜ r ≡ carriesInRange status ⌝ }
+pub fn carries_in_range(status: Status, limits: Limits) -> bool
+    ensures { λ r. ⌜ r ≡ carriesInRange limits status ⌝ }
 {
     match status {
         Status::Idle => true,
         Status::Running => true,
         Status::Ended => true,
-        Status::Trapped(reason) => (1 <= reason) & (reason <= 6),
-        Status::Waiting(id, count) => (id <= 31) & (1 <= count) & (count <= 8),
+        Status::Trapped(reason) => (1 <= reason) & (reason <= limits.reason),
+        Status::Waiting(id, count) => (id <= limits.barrier) & (1 <= count) & (count <= 8),
     }
 }
 

@@ -5,9 +5,10 @@ ghost use mathlib.Core.Path.{_≡_};
 ghost use lib.Dec.{ltb};
 ghost use Rattle.machine.specs.Machine.{statusAt};
 ghost use Rattle.machine.specs.Status.{carriesInRange, ifWaiting};
-ghost use Rattle.machine.specs.WellFormed.{waiting, disputed, idleIfDisabled, countAgreed, fewerWait, wellFormed};
+ghost use Rattle.machine.specs.WellFormed.{wellFormedWithin, waiting, disputed, idleIfDisabled, countAgreed, fewerWait, wellFormed};
 use crate::record::Machine;
 use crate::record::is_disabled;
+use crate::status::Limits;
 use crate::status::Status;
 use crate::status::carries_in_range;
 use crate::status::is_idle;
@@ -47,14 +48,14 @@ impl Machine {
     }
 
     // Whether one thread's entry is as it should be.
-    fn entry_in_order(self, thread: usize) -> bool
+    fn entry_in_order(self, thread: usize, limits: Limits) -> bool
         requires { ⌜ thread < 8 ⌝ }
-        ensures { λ r. ⌜ r ≡ (carriesInRange (statusAt self thread) && idleIfDisabled self thread && (countAgreed self thread && fewerWait self thread)) ⌝ }
+        ensures { λ r. ⌜ r ≡ (carriesInRange limits (statusAt self thread) && idleIfDisabled self thread && (countAgreed self thread && fewerWait self thread)) ⌝ }
     {
         let status = self.status_at(thread);
         let off = is_disabled(self.enabled, thread);
         let idle = is_idle(status);
-        let ranges = carries_in_range(status);
+        let ranges = carries_in_range(status, limits);
         let meeting = self.meeting_in_order(thread, status);
         ranges & (idle == off) & meeting
     }
@@ -62,6 +63,13 @@ impl Machine {
     // Whether the record is well formed, with every number in range.
     pub fn well_formed(self) -> bool
         ensures { λ r. ⌜ r ≡ wellFormed self ⌝ }
+    {
+        self.well_formed_within(Limits::standard())
+    }
+
+    // The same within any limits.
+    pub(crate) fn well_formed_within(self, limits: Limits) -> bool
+        ensures { λ r. ⌜ r ≡ wellFormedWithin limits self ⌝ }
     {
         let enabled = self.enabled;
         let last = self.last;
@@ -72,7 +80,7 @@ impl Machine {
             return false;
         }
         for thread in 0..8 {
-            let fine = self.entry_in_order(thread);
+            let fine = self.entry_in_order(thread, limits);
             if !fine {
                 return false;
             }

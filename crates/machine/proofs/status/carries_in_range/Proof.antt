@@ -7,4 +7,6 @@ pub carries-in-range-spec : {M : Type 1} → statement M
 carries-in-range-spec =
     tie.close
     (tie.spec (λ c. search needs) (λ c. search needs) (λ c. search needs) (λ c. search needs) (λ c. search needs)
-    (λ c. search needs) (λ c. search needs) (λ c. search needs) (λ c. rw (c .before .status .given .1)) (λ c. rw (c .before .status2 .given .1)))
+    (λ c. search needs) (λ c. search needs) (λ c. search needs)
+    (λ c. rw (c .before .before .status .given .1))
+    (λ c. rw (c .before .before .status2 .given .1)))

@@ -1,63 +1,14 @@
 -- `well_formed` meets its contract.
-use Prim.Native.Nat.{_-_}
-use mathlib.Core.Bool.{true, false}
-use mathlib.Core.Path.{_≡_, refl, sym, _∙_}
-use native.Mathlib.Omega.{arith}
+use mathlib.Core.Path.{ap, _∙_}
 use borrow.Author.Needs.{needs}
-use borrow.Author.Tests.{not-true, not-false}
-use lib.ListN.{length, length-map}
-use Rattle.machine.specs.WellFormed.{wellFormed}
-use Rattle.machine.specs.Search.{all}
-use Rattle.machine.proofs.Entries.{inOrder, by-entries, no-mask, no-last}
-use Rattle.machine.proofs.Loops.{from, look, stop}
+use Rattle.machine.specs.WellFormed.{wellFormedWithin}
 use Rattle.machine.proofs.record.Machine.well_formed.Statement.{statement}
 use Rattle.machine.proofs.record.Machine.well_formed.Tie as tie
-
-abbrev Inv-loop : tie.InvT-loop
-Inv-loop self enabled last thread₀ thread = wellFormed self ≡ all (inOrder self) (from thread (8 - thread))
-
-abbrev μ-loop : tie.MeasureT-loop
-μ-loop self enabled last thread₀ thread = 8 - thread
-
-returns : tie.Need-returns Inv-loop μ-loop
-returns c = sym (no-mask (c .before .args .self) (c .if1 .taken))
-
-returns-2 : tie.Need-returns-2 Inv-loop μ-loop
-returns-2 c = sym (no-last (c .before .before .args .self) (c .if2 .taken))
-
-loop-holds : tie.Need-loop-holds Inv-loop μ-loop
-unfolding from
-loop-holds c =
-    let m = c .before .before .args .self in
-    let eight : length (m .threads) ≡ 8 = sym (length-map (m .threads) _) ∙ c .before .before .good .0 .1 .1 .1 .0 .1 .0 .1 in
-    by-entries m (omega (arith, c .before .if1 .left)) (omega arith) (omega arith) eight
-
--- an entry is not in order
-returns-3 : tie.Need-returns-3 Inv-loop μ-loop
-unfolding all
-returns-3 c =
-    let l = c .before .before .before .loop in
-    let m = c .before .before .before .before .before .before .args .self in
-    let h : inOrder m (l .thread) ≡ false = sym (c .before .entry-in-order .ensures) ∙ not-true (c .before .entry-in-order .result) (c .if3 .taken) in
-    sym (l .inv ∙ look (all (inOrder m)) (l .thread) 8 (c .before .before .loop-test .taken) (rw h))
-
-loop-again : tie.Need-loop-again Inv-loop μ-loop
-unfolding all
-loop-again c =
-    let l = c .before .before .before .loop in
-    let m = c .before .before .before .before .before .before .args .self in
-    let h : inOrder m (l .thread) ≡ true = sym (c .before .entry-in-order .ensures) ∙ not-false (c .before .entry-in-order .result) (c .if3 .left) in
-    l .inv ∙ look (all (inOrder m)) (l .thread) 8 (c .before .before .loop-test .taken) (rw h)
-
-returns-4 : tie.Need-returns-4 Inv-loop μ-loop
-unfolding all
-returns-4 c =
-    let l = c .before .loop in
-    let m = c .before .before .before .before .args .self in
-    sym (l .inv ∙ stop (all (inOrder m)) (l .thread) 8 (c .loop-test .left) refl)
 
 pub well-formed-spec : {M : Type 1} → statement M
 well-formed-spec =
     tie.close
-    (tie.spec Inv-loop μ-loop returns returns-2 loop-holds (λ c κs. search needs) returns-3 (λ c. omega arith) (λ c. omega arith)
-    loop-again returns-4)
+    (tie.spec
+    (λ c κs. search needs)
+    (λ c κs. search needs)
+    (λ c. c .well-formed-within .ensures ∙ ap (λ l. wellFormedWithin l (c .before .before .args .self)) (c .before .standard .ensures)))
