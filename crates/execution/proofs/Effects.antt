@@ -13,7 +13,8 @@ use Rattle.isa.proofs.Ranges.{in-range}
 use Rattle.isa.specs.Claims.{Ranged, InRange}
 use Rattle.isa.specs.Read.{read}
 use Rattle.memory.proofs.Claimed.{lengths}
-use Rattle.memory.specs.Attempt.{Attempt, done, trap, onward, misaligned, outside}
+use Rattle.answer.specs.Reason.{misaligned, outside-memory}
+use Rattle.memory.specs.Attempt.{Attempt, done, trap, onward}
 use Rattle.memory.specs.Bytes.{numberAt, withNumber}
 use Rattle.memory.specs.Operation.{load, store, loadLanes, storeLanes, changed, gathered, scalarPlace, vectorPlace, vectorAlignment, bytesLoaded, widened, bytesStored, withLanes, Outcome}
 use Rattle.memory.specs.Place.{place, lifted, inside}
@@ -110,7 +111,7 @@ placed : (alignment size length address : ℕ) → Attempted (place alignment si
 unfolding place
 placed alignment size length address = go (eqb (address % alignment) 0) (inside size length address)
   where
-    go : (a b : Bool) → Attempted (cond a (cond b (done (address - 2 ^ 32)) (trap outside)) (trap misaligned))
+    go : (a b : Bool) → Attempted (cond a (cond b (done (address - 2 ^ 32)) (trap outside-memory)) (trap misaligned))
     go true true = tt
     go true false = (omega arith, omega arith)
     go false b = (omega arith, omega arith)

@@ -4,6 +4,7 @@ use mathlib.Core.Bool.{cond}
 use mathlib.Core.List.{List}
 use mathlib.Core.Option.{Option, none, some}
 use lib.Dec.{eqb}
+use Rattle.answer.specs.Reason.{not-fitted-word}
 use Rattle.execution.specs.Effect.{Step, step, trapped, next, advanced}
 use Rattle.execution.specs.Registers.{scalar, withScalar}
 use Rattle.execution.specs.Types.{ControlOp, Barrier, Readcr, End, Ends, Meets, ControlValue, Known, Unknown}
@@ -26,7 +27,7 @@ controlValue (Known x) = some x
 controlValue Unknown = none
 
 abbrev pub readInto : ℕ → ℕ → List ℕ → ℕ → Option ℕ → Step
-readInto pc t room d none = trapped 6 room
+readInto pc t room d none = trapped not-fitted-word room
 readInto pc t room d (some x) = next pc t (withScalar room t d x)
 
 -- "1 readcr: into the first, the control register whose number the second register's value is"

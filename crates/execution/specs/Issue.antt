@@ -5,6 +5,7 @@ use mathlib.Core.List.{List}
 use mathlib.Core.Path.{_≡_}
 use lib.Dec.{leb, ltb, eqb}
 use lib.ListN.{length, getD}
+use Rattle.answer.specs.Reason.{undefined-word, outside-program, not-fitted-word}
 use Rattle.answer.specs.Answer.{Answer, given, refused, undefined}
 use Rattle.isa.specs.Read.{read}
 use Rattle.machine.specs.Barrier.{meet}
@@ -31,7 +32,7 @@ execute words enabled t room memory pc (M op register base offset) = access t ro
 
 -- "undefined word (3); not fitted (6)"
 abbrev pub unreadable : ℕ → ℕ
-unreadable number = cond (eqb number undefined) 3 6
+unreadable number = cond (eqb number undefined) undefined-word not-fitted-word
 
 -- "undefined word (3); not fitted (6); then those of the operation"
 abbrev pub executeRead : ℕ → ℕ → ℕ → List ℕ → List ℕ → ℕ → Answer Instruction → Executed
@@ -72,7 +73,7 @@ abbrev pub performAt : List ℕ → State → ℕ → ℕ → State
 performAt p s t pc =
     cond (inProgram (length p) pc)
     (settled (s .machine) t pc (executeWord (length p) (s .machine .enabled) t (s .registers) (s .memory) pc (getD p (pc / 4) 0)))
-    (state (trap (s .machine) t 4) (s .registers) (s .memory))
+    (state (trap (s .machine) t outside-program) (s .registers) (s .memory))
 
 -- one issue of a thread that is "last" already
 unfoldable pub perform : List ℕ → State → ℕ → State

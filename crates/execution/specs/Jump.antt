@@ -3,6 +3,7 @@ use Prim.Native.Nat.{ℕ, _+_, _-_, _*_, _%_, _^_}
 use mathlib.Core.Bool.{Bool, _&&_, not, cond}
 use mathlib.Core.List.{List}
 use lib.Dec.{eqb, leb, ltb}
+use Rattle.answer.specs.Reason.{outside-program}
 use Rattle.memory.specs.Place.{lifted}
 use Rattle.execution.specs.Effect.{Step, step, trapped, next}
 use Rattle.execution.specs.Registers.{scalar, withScalar, withProgramCounter, linkRegister}
@@ -16,13 +17,13 @@ inProgram words address = eqb (address % 4) 0 && ltb address (4 * words)
 -- `linked` are the registers that the jump leaves, but for s63.
 unfoldable pub jumpTo : ℕ → ℕ → List ℕ → List ℕ → ℕ → Step
 jumpTo words t room linked address =
-    cond (inProgram words address) (step Stays (withProgramCounter linked t address)) (trapped 4 room)
+    cond (inProgram words address) (step Stays (withProgramCounter linked t address)) (trapped outside-program room)
 
 -- "A taken target that is negative .. traps with 4."; "signed byte offset 17-0 from the word's own address"
 -- The target is held with 2^32 added to it, since it may be negative.
 abbrev pub jumpOver : ℕ → ℕ → List ℕ → List ℕ → ℕ → Step
 jumpOver words t room linked target =
-    cond (leb (2 ^ 32) target) (jumpTo words t room linked (target - 2 ^ 32)) (trapped 4 room)
+    cond (leb (2 ^ 32) target) (jumpTo words t room linked (target - 2 ^ 32)) (trapped outside-program room)
 
 unfoldable pub jumpBy : ℕ → ℕ → List ℕ → List ℕ → ℕ → ℕ → Step
 jumpBy words t room linked pc offset = jumpOver words t room linked (lifted pc offset)

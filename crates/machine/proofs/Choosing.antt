@@ -9,7 +9,7 @@ use lib.Count.{trailingZeros}
 use lib.Dec.{ltb}
 use Rattle.machine.specs.Claims.{FirstAfterLast, Chooses, ChoosesNone, Turned}
 use Rattle.machine.specs.Machine.{threadNumbers}
-use Rattle.machine.specs.Scheduler.{runs, after, distances, chosenAt, choice, issued, choose}
+use Rattle.machine.specs.Scheduler.{runs, after, distances, chosenAt, choice, afterChoice, choose}
 use Rattle.machine.specs.Search.{first, bits}
 use Rattle.machine.specs.Types.{Machine, Chosen, NoneRunning, Turn}
 use Rattle.machine.proofs.Loops.{from}
@@ -126,4 +126,4 @@ pub turned : Turned
 unfolding choose
 turned m r e c f =
     let q : choice m ≡ c = sym (ap (λ (x : Turn). x .choice) e) ∙ f in
-    (q, ap (λ (x : Turn). x .machine) e ∙ ap (issued m) q)
+    (q, ap (λ (x : Turn). x .machine) e ∙ ap (afterChoice m) q)

@@ -3,6 +3,7 @@ use Prim.Native.Nat.{ℕ, _+_}
 use mathlib.Core.Bool.{Bool, true, false, _||_, cond}
 use mathlib.Core.List.{map}
 use lib.Dec.{ltb, eqb}
+use Rattle.answer.specs.Reason.{barrier-refused}
 use Rattle.machine.specs.Machine.{withStatus, withStatusAt, trap}
 use Rattle.machine.specs.Status.{limits, waitsAt}
 use Rattle.machine.specs.Types.{Status, Running, Waiting, Machine, Meeting}
@@ -33,5 +34,5 @@ arrive m t id count = releaseIfMet (withStatusAt m t (Waiting id count)) id coun
 unfoldable pub meet : Machine → ℕ → ℕ → ℕ → Meeting
 meet m t id second =
     cond (refusesMeeting m t id second)
-    (record { trapped = true; machine = trap m t 5 })
+    (record { trapped = true; machine = trap m t barrier-refused })
     (record { trapped = false; machine = arrive m t id (second + 1) })

@@ -6,7 +6,7 @@ use mathlib.Core.Path.{_≡_}
 use lib.ListN.{length}
 use Rattle.machine.specs.Barrier.{meet}
 use Rattle.machine.specs.Machine.{statusAt, bit, trap, end, start}
-use Rattle.machine.specs.Scheduler.{runs, after, choice, withLast, issued, choose}
+use Rattle.machine.specs.Scheduler.{runs, after, choice, withLast, afterChoice, choose}
 use Rattle.machine.specs.Status.{limits}
 use Rattle.machine.specs.Types.{Limits, Idle, Trapped, Waiting, Machine, Choice, Chosen, NoneRunning, Turn}
 use Rattle.machine.specs.WellFormed.{waiting, wellFormedWithin, wellFormed}
@@ -64,7 +64,7 @@ ChoosesNone = (m : Machine) → (choice m ≡ NoneRunning) ↔ ((t : ℕ) → t 
 
 -- what a caller learns of a turn r: the choice is the rules', and the record the one with which its thread is issued
 abbrev pub Turned : Type 0
-Turned = (m : Machine) (r : Turn) → r ≡ choose m → (c : Choice) → r .choice ≡ c → (choice m ≡ c) × (r .machine ≡ issued m c)
+Turned = (m : Machine) (r : Turn) → r ≡ choose m → (c : Choice) → r .choice ≡ c → (choice m ≡ c) × (r .machine ≡ afterChoice m c)
 
 -- a record stays well formed whichever thread is "last"
 abbrev pub Issued : Type 0

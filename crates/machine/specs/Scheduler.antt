@@ -27,18 +27,18 @@ chosenAt m (some distance) = Chosen (after m distance) distance
 unfoldable pub choice : Machine → Choice
 choice m = chosenAt m (first (λ distance. runs m (after m distance)) distances)
 
--- the record with another thread issued last
+-- the thread "becomes "last""
 abbrev pub withLast : Machine → ℕ → Machine
 withLast m t = record { enabled = m .enabled; last = t; threads = m .threads }
 
--- "is issued, once, and becomes "last""
-abbrev pub issued : Machine → Choice → Machine
-issued m (Chosen thread distance) = withLast m thread
-issued m NoneRunning = m
+-- the record with which the thread chosen is issued
+abbrev pub afterChoice : Machine → Choice → Machine
+afterChoice m (Chosen thread distance) = withLast m thread
+afterChoice m NoneRunning = m
 
--- the choice, and the record with which the thread is issued
+-- the choice, with that record
 unfoldable pub choose : Machine → Turn
-choose m = record { choice = choice m; machine = issued m (choice m) }
+choose m = record { choice = choice m; machine = afterChoice m (choice m) }
 
 abbrev pub waits : Machine → ℕ → Bool
 waits m t = isWaiting (statusAt m t)

@@ -8,7 +8,8 @@ use lib.Dec.{eqb, leb}
 use lib.ListN.{length}
 use borrow.Author.Tests.{leb-true}
 use Rattle.memory.specs.Types.{LoadOp, Load8, Load16, Load32, Load8u, Load16u, StoreOp, Store8, Store16, Store32}
-use Rattle.memory.specs.Attempt.{Attempt, done, trap, misaligned, outside}
+use Rattle.answer.specs.Reason.{misaligned, outside-memory}
+use Rattle.memory.specs.Attempt.{Attempt, done, trap}
 use Rattle.alu.specs.Word.{negative}
 use Rattle.memory.specs.Place.{lifted, inside, place}
 use Rattle.memory.specs.Operation.{bytesLoaded, bytesStored, scalarPlace}
@@ -53,7 +54,7 @@ module _ (alignment size room address : ℕ) where
   unfolding place
   when-misaligned e = rw e
 
-  pub when-outside : eqb (address % alignment) 0 ≡ true → inside size room address ≡ false → place alignment size room address ≡ trap outside
+  pub when-outside : eqb (address % alignment) 0 ≡ true → inside size room address ≡ false → place alignment size room address ≡ trap outside-memory
   unfolding place
   when-outside e f = rw (e, f)
 
@@ -66,7 +67,7 @@ module _ (alignment size room address : ℕ) where
   unfolding place
   within {a} = go (eqb (address % alignment) 0) (inside size room address) refl
     where
-      go : (p q : Bool) → inside size room address ≡ q → cond p (cond q (done (address - 2 ^ 32)) (trap outside)) (trap misaligned) ≡ done a → a + size ≤ room
+      go : (p q : Bool) → inside size room address ≡ q → cond p (cond q (done (address - 2 ^ 32)) (trap outside-memory)) (trap misaligned) ≡ done a → a + size ≤ room
       go true true e f = let g : address - 2 ^ 32 ≡ a = cc in omega (arith, low-enough size room address e, high-enough size room address e)
       go true false e f = absurd (let z : _≡_ {A = ℕ} 0 1 = cc in omega arith)
       go false q e f = absurd (let z : _≡_ {A = ℕ} 0 1 = cc in omega arith)

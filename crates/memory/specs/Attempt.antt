@@ -1,5 +1,6 @@
 -- What comes of an attempt to access memory: something, or a trap.
 use Prim.Native.Nat.{ℕ}
+use Rattle.answer.specs.Reason.{misaligned, outside-memory}
 use Rattle.memory.specs.Types.{Place, Access, Loaded}
 
 -- a trap has its reason
@@ -12,26 +13,18 @@ abbrev pub onward : {A B : Type 0} → Attempt A → (A → B) → Attempt B
 onward (done a) f = done (f a)
 onward (trap reason) f = trap reason
 
--- "Not a multiple of 2, 4 or 64 (vector): reason 1."
-abbrev pub misaligned : ℕ
-misaligned = 1
-
--- "Then any byte outside memory: reason 2."
-abbrev pub outside : ℕ
-outside = 2
-
 -- The cases of the code's answers.
 abbrev pub ofPlace : Place → Attempt ℕ
 ofPlace (Place.At a) = done a
 ofPlace Place.Misaligned = trap misaligned
-ofPlace Place.Outside = trap outside
+ofPlace Place.Outside = trap outside-memory
 
 abbrev pub ofAccess : Access → Attempt (Unit {0})
 ofAccess Access.Done = done tt
 ofAccess Access.Misaligned = trap misaligned
-ofAccess Access.Outside = trap outside
+ofAccess Access.Outside = trap outside-memory
 
 abbrev pub ofLoaded : Loaded → Attempt ℕ
 ofLoaded (Loaded.Value v) = done v
 ofLoaded Loaded.Misaligned = trap misaligned
-ofLoaded Loaded.Outside = trap outside
+ofLoaded Loaded.Outside = trap outside-memory

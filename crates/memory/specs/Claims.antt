@@ -9,7 +9,8 @@ use Rattle.alu.specs.Unary.{unary}
 use Rattle.alu.specs.Word.{value}
 use Rattle.vector.specs.Lanes.{lane, isOn}
 use Rattle.memory.specs.Types.{LoadOp, Load8, Load16, Load32, Load8u, Load16u, StoreOp, Store8, Store16, Store32, Sext8, Sext16}
-use Rattle.memory.specs.Attempt.{Attempt, done, trap, misaligned, outside}
+use Rattle.answer.specs.Reason.{misaligned, outside-memory}
+use Rattle.memory.specs.Attempt.{Attempt, done, trap}
 use Rattle.memory.specs.Place.{lifted, place}
 use Rattle.memory.specs.Operation.{bytesLoaded, load, store, storeLanes, loadLanes}
 
@@ -28,8 +29,8 @@ row base offset place = record { base = base; offset = offset; place = place }
 
 abbrev pub figures : List Row
 figures =
-    row 60 0 (done 60) ∷ row 62 0 (trap misaligned) ∷ row 64 0 (trap outside) ∷ row 0 (2 ^ 32 - 4) (trap outside) ∷ row 0 (2 ^ 32 - 2) (trap misaligned)
-    ∷ row 0xFFFFFFFC 4 (trap outside) ∷ []
+    row 60 0 (done 60) ∷ row 62 0 (trap misaligned) ∷ row 64 0 (trap outside-memory) ∷ row 0 (2 ^ 32 - 4) (trap outside-memory) ∷ row 0 (2 ^ 32 - 2) (trap misaligned)
+    ∷ row 0xFFFFFFFC 4 (trap outside-memory) ∷ []
 
 abbrev pub All : List Row → Type 0
 All [] = Unit {0}

@@ -3,7 +3,8 @@ use Prim.Native.Nat.{ℕ, _+_, _-_, _%_, _^_}
 use mathlib.Core.Bool.{Bool, cond, _&&_}
 use lib.Dec.{eqb, leb}
 use Rattle.alu.specs.Word.{negative}
-use Rattle.memory.specs.Attempt.{Attempt, done, trap, misaligned, outside}
+use Rattle.answer.specs.Reason.{misaligned, outside-memory}
+use Rattle.memory.specs.Attempt.{Attempt, done, trap}
 
 -- "Address is base, read unsigned, plus offset and does not wrap." The offset is a signed number, held modulo 2^32.
 -- The address is held with 2^32 added to it, since it may be negative.
@@ -20,5 +21,5 @@ inside size length address = leb (2 ^ 32) address && leb (address + size) (2 ^ 3
 unfoldable pub place : ℕ → ℕ → ℕ → ℕ → Attempt ℕ
 place alignment size length address =
     cond (eqb (address % alignment) 0)
-    (cond (inside size length address) (done (address - 2 ^ 32)) (trap outside))
+    (cond (inside size length address) (done (address - 2 ^ 32)) (trap outside-memory))
     (trap misaligned)

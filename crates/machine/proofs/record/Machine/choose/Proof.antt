@@ -4,16 +4,16 @@ use mathlib.Core.Path.{_≡_, sym, ap, _∙_}
 use native.Mathlib.Omega.{arith}
 use borrow.Author.Needs.{needs}
 use lib.Count.{trailingZeros}
-use Rattle.machine.specs.Scheduler.{after, choice, withLast, issued, choose}
+use Rattle.machine.specs.Scheduler.{after, choice, withLast, afterChoice, choose}
 use Rattle.machine.specs.Types.{Machine, Choice, Chosen, NoneRunning}
 use Rattle.machine.proofs.Choosing.{mask, mask-small, zeros, nothing-set, one-set}
 use Rattle.machine.proofs.record.Machine.choose.Statement.{statement}
 use Rattle.machine.proofs.record.Machine.choose.Tie as tie
 
 -- a turn by its choice
-turn : (m : Machine) (c : Choice) → choice m ≡ c → record { choice = c; machine = issued m c } ≡ choose m
+turn : (m : Machine) (c : Choice) → choice m ≡ c → record { choice = c; machine = afterChoice m c } ≡ choose m
 unfolding choose
-turn m c e = ap (λ (x : Choice). record { choice = x; machine = issued m x }) (sym e)
+turn m c e = ap (λ (x : Choice). record { choice = x; machine = afterChoice m x }) (sym e)
 
 -- what the code computes of the mask r of the running threads
 record Computed (m : Machine) (r : ℕ) : Type 0 where
