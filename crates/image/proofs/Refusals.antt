@@ -1,7 +1,7 @@
 -- What a call has of its lengths and its record where the table gives it no number, and what it then gives.
 use Prim.Native.Nat.{ℕ, _*_, _/_, _%_, _≤_}
 use mathlib.Core.Bool.{Bool, true, false, cond, _||_, not}
-use mathlib.Core.List.{List, [], _∷_, _++_}
+use mathlib.Core.List.{List, [], _∷_}
 use mathlib.Core.Option.{Option, none, some}
 use mathlib.Core.Path.{_≡_, refl, sym, ap, _∙_}
 use native.Mathlib.Omega.{arith}
@@ -9,9 +9,9 @@ use borrow.Author.Tests.{eqb-true, eq-eqb, not-false}
 use lib.Dec.{ltb, eqb}
 use lib.ListN.{length}
 use Rattle.answer.specs.Answer.{given, refused}
-use Rattle.answer.proofs.Checks.{passed, first-after}
+use Rattle.answer.proofs.Checks.{passed, first-after, either-given}
 use Rattle.answer.proofs.Lengths.{memory-most}
-use Rattle.answer.specs.Refusal.{badRegisters, badMemory, imageLength, badLength, Check, check, firstThatApplies, sizeChecks, sizesNumber, refusedOr}
+use Rattle.answer.specs.Refusal.{badRegisters, badMemory, imageLength, badLength, check, firstThatApplies, sizeChecks, sizesNumber, refusedOr}
 use Rattle.machine.specs.State.{State, state}
 use Rattle.machine.proofs.Tests.{neither}
 use Rattle.machine.specs.Machine.{zeroed}

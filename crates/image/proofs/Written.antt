@@ -1,23 +1,21 @@
 -- What was written is read back: of every state that the writer takes, at the fixed places of its image.
 use Prim.Native.Nat.{ℕ, _+_, _*_, _/_, _%_, _≤_, _<_}
-use mathlib.Core.Bool.{true, _&&_}
+use mathlib.Core.Bool.{true}
 use mathlib.Core.List.{List, [], _∷_, _++_}
 use mathlib.Core.Path.{_≡_, sym, ap, _∙_}
 use native.Mathlib.Nat.{le-of-eq}
 use native.Mathlib.Omega.{arith}
-use borrow.Author.Tests.{eqb-true}
-use lib.Dec.{eqb, leb}
 use lib.ListN.{length, getD, take, drop, length-drop}
 use lib.Seq.{take-all, take-add, getD-drop}
 use Rattle.answer.specs.Answer.{given}
 use Rattle.machine.specs.State.{scalarPlace, lanePlace}
 use Rattle.machine.specs.State.{State, state}
 use Rattle.image.proofs.Numbers.{exact}
-use Rattle.machine.proofs.Tests.{both}
 use Rattle.image.specs.Fields.{fieldsOf}
-use Rattle.machine.specs.Machine.{zeroThread, statusAt, allThreads}
-use Rattle.machine.specs.Status.{carriesInRange}
-use Rattle.machine.specs.WellFormed.{numbersInRange, idleIfDisabled, countAgreed, fewerWait, wellFormedWithin, wellFormed}
+use Rattle.machine.specs.Machine.{zeroThread}
+use Rattle.machine.proofs.Claims.{tested}
+use Rattle.machine.specs.Status.{limits}
+use Rattle.machine.specs.WellFormed.{wellFormed}
 use Rattle.image.specs.Bytes.{bytesOf, wordsOf}
 use Rattle.image.specs.Claims.{Words}
 use Rattle.image.specs.Image.{shapeOf, Lengths, bodyOf, image, fieldsIn, isEntry, entryOr, entryIn, threadsIn, machineIn, recordIn, roomIn, registersIn, memoryIn, stateIn}
@@ -34,19 +32,8 @@ use Rattle.image.proofs.Words.{words-back}
 -- A well-formed record has eight entries.
 
 module _ (m : Machine) (h : wellFormed m ≡ true) where
-  in-range : numbersInRange m ≡ true
-  unfolding wellFormedWithin
-  in-range =
-      both (numbersInRange m) (allThreads (idleIfDisabled m))
-      (both (numbersInRange m && allThreads (idleIfDisabled m)) (allThreads (countAgreed m))
-      (both (numbersInRange m && allThreads (idleIfDisabled m) && allThreads (countAgreed m)) (allThreads (fewerWait m)) h .0) .0) .0
-
   pub eight : length (m .threads) ≡ 8
-  unfolding numbersInRange
-  eight =
-      eqb-true (length (m .threads)) 8
-      (both (leb 1 (m .enabled) && leb (m .enabled) 255 && leb (m .last) 7) (eqb (length (m .threads)) 8)
-      (both (leb 1 (m .enabled) && leb (m .enabled) 255 && leb (m .last) 7 && eqb (length (m .threads)) 8) (allThreads (λ t. carriesInRange (statusAt m t))) in-range .0) .1)
+  eight = tested limits m .0 h .entries
 
 -- The record, in any bytes that hold it at the fixed places of HD and TH.
 
