@@ -18,7 +18,7 @@ ghost use lib.ListN.{length};
 
 // Prints how a run ended.
 fn print(run: Run, registers: &[u32; 8704]) {
-    let mut text = [0u8; 632];
+    let mut text = [0u8; 733];
     let length = report::write_report(run, registers, &mut text);
     let written = io::write_all(STDOUT_FILENO, &text[..length]);
     if !written {

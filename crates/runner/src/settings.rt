@@ -1,6 +1,6 @@
 // The arguments, five decimal numbers that the command gives: MASK MEMORY BUDGET RESUME SAVE.
 use crate::complaints::complain;
-use report::Argument;
+use text::Argument;
 
 // What a run goes by. A machine that is resumed has its own mask and memory.
 pub struct Settings {
@@ -16,7 +16,7 @@ pub struct Settings {
 fn number_at(i: usize) -> Argument {
     let mut text = io::buffer();
     let length = os::arg(i, &mut text);
-    report::number(&text[..length])
+    text::number_of(&text[..length])
 }
 
 fn missing() -> Settings {
