@@ -59,8 +59,10 @@ line-small thread s pc = go (isIdle s)
   where
     whole : List (List ℕ)
     whole = (bytes "thread " ∷ decimal thread ∷ stateParts s pc) ++ bytes "\n" ∷ []
+
     small : total whole ≤ 75
     small = omega (arith, total-append (stateParts s pc) (bytes "\n" ∷ []), decimal-small thread, state-small s pc)
+
     go : (b : Bool) → total (cond b [] whole) ≤ 75
     go true = lit≤ tt
     go false = small
@@ -92,8 +94,10 @@ off-line-small m = go (eqb (m .enabled) 255)
   where
     whole : List (List ℕ)
     whole = (bytes "threads off:" ∷ offParts m 8) ++ bytes "\n" ∷ []
+
     small : total whole ≤ 101
     small = omega (arith, total-append (offParts m 8) (bytes "\n" ∷ []), offs-small m 8)
+
     go : (b : Bool) → total (cond b [] whole) ≤ 101
     go true = lit≤ tt
     go false = small
