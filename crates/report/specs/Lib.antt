@@ -1,5 +1,3 @@
--- What the runner prints, and the numbers of its arguments: what the contracts cite.
+-- What the runner prints: what the contracts cite.
 pub mod Types
-pub mod Text
 pub mod Report
-pub mod Argument

@@ -1,4 +1,4 @@
-// What goes to standard error: one line.
+// What goes to standard error: one line, which the command decides its exit status by.
 use libc::STDERR_FILENO;
 
 fn say(text: &[u8]) {
@@ -12,19 +12,10 @@ pub fn complain(text: &[u8]) {
     say(b"\n");
 }
 
-// A line about an argument, which it ends with.
-pub fn complain_of(text: &[u8], argument: &[u8]) {
-    say(b"korvammel: ");
-    say(text);
-    say(argument);
-    say(b"\n");
-}
-
-// A line about a file that a call just failed on, with the system's reason.
-pub fn fail(text: &[u8], path: &[u8]) {
-    say(b"korvammel: ");
-    say(text);
-    os::fail(path);
+// A line about a stream that a call just failed on, with the system's reason.
+pub fn fail(what: &[u8]) {
+    say(b"korvammel: can't ");
+    os::fail(what);
 }
 
 fn meaning(number: u8) {

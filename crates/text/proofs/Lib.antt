@@ -3,3 +3,4 @@ pub mod Digits
 pub mod Placing
 pub mod Lengths
 pub mod Shown
+pub mod Arguments

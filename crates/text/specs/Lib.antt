@@ -1,3 +1,5 @@
--- Text in a lent buffer: what the contracts cite.
+-- Text in a lent buffer, and numbers read from text: what the contracts cite.
+pub mod Types
 pub mod Number
 pub mod Buffer
+pub mod Argument

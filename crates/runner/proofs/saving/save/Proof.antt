@@ -11,7 +11,6 @@ save-spec =
     (λ c. search needs)
     (λ c. search needs)
     (λ c. search needs)
-    (λ c. search needs)
     (λ c. shown _ _ (search needs))
     (λ c κs. search needs)
     (λ c. search needs))

@@ -1,0 +1,59 @@
+// The arguments, five decimal numbers that the command gives: MASK MEMORY BUDGET RESUME SAVE.
+use crate::complaints::complain;
+use text::Argument;
+
+// What a run goes by. A machine that is resumed has its own mask and memory.
+pub struct Settings {
+    pub mask: u32,
+    pub memory: u32,
+    pub budget: u32,
+    pub resume: bool,
+    pub save: bool,
+    pub given: bool,
+}
+
+// The number that argument i gives. One that is missing reads as an empty one, which is none.
+fn number_at(i: usize) -> Argument {
+    let mut text = io::buffer();
+    let length = os::arg(i, &mut text);
+    text::number_of(&text[..length])
+}
+
+fn missing() -> Settings {
+    complain(b"the runner takes five numbers: mask, memory, budget, resume, save");
+    Settings {
+        mask: 0,
+        memory: 0,
+        budget: 0,
+        resume: false,
+        save: false,
+        given: false,
+    }
+}
+
+// The settings that the arguments give; where they give none, that has been complained of.
+pub fn read_settings() -> Settings {
+    let Argument::Number(mask) = number_at(1) else {
+        return missing();
+    };
+    let Argument::Number(memory) = number_at(2) else {
+        return missing();
+    };
+    let Argument::Number(budget) = number_at(3) else {
+        return missing();
+    };
+    let Argument::Number(resume) = number_at(4) else {
+        return missing();
+    };
+    let Argument::Number(save) = number_at(5) else {
+        return missing();
+    };
+    Settings {
+        mask,
+        memory,
+        budget,
+        resume: resume != 0,
+        save: save != 0,
+        given: true,
+    }
+}

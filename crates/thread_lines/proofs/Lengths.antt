@@ -1,0 +1,107 @@
+-- How long the parts of a text can be.
+use Prim.Native.Nat.{ℕ, zero, suc, _+_, _*_, _≤_}
+use mathlib.Core.Bool.{Bool, true, false, cond}
+use mathlib.Core.List.{List, [], _∷_, _++_}
+use mathlib.Core.Path.{_≡_, refl, _∙_, ap}
+use native.Mathlib.Omega.{arith}
+use lib.Dec.{eqb, lit≤}
+use lib.ListN.{length, length-append}
+use Rattle.isa.specs.Text.{bytes}
+use Rattle.text.proofs.Lengths.{decimal-small}
+use Rattle.text.specs.Number.{decimal}
+use Rattle.machine.specs.Machine.{statusAt}
+use Rattle.machine.specs.Status.{isIdle}
+use Rattle.thread_lines.specs.Lines.{programCounter, reason, stateParts, lineParts, linesParts, offPart, offParts, offLine, threadParts}
+use Rattle.thread_lines.specs.Text.{joined, counter}
+use Rattle.thread_lines.specs.Types.{Machine, Status, Idle, Running, Ended, Trapped, Waiting}
+
+-- the bytes of all parts
+abbrev pub total : List (List ℕ) → ℕ
+total [] = 0
+total (part ∷ parts) = length part + total parts
+
+pub length-joined : (parts : List (List ℕ)) → length (joined parts) ≡ total parts
+unfolding joined
+length-joined [] = refl
+length-joined (part ∷ parts) = length-append part (joined parts) ∙ ap (λ (n : ℕ). length part + n) (length-joined parts)
+
+pub total-append : (parts more : List (List ℕ)) → total (parts ++ more) ≡ total parts + total more
+total-append [] more = omega arith
+total-append (part ∷ parts) more = omega (arith, total-append parts more)
+
+counter-length : (n : ℕ) → length (counter n) ≡ 8
+unfolding counter
+counter-length n = refl
+
+reason-small : (n : ℕ) → length (reason n) ≤ 22
+unfolding reason bytes
+reason-small n = go (eqb n 1) (eqb n 2) (eqb n 3) (eqb n 4) (eqb n 5)
+  where
+    go : (a b c d e : Bool) → length (cond a (bytes "address not aligned") (cond b (bytes "address outside memory") (cond c (bytes "undefined word") (cond d (bytes "outside the program") (cond e (bytes "barrier refused") (bytes "not fitted")))))) ≤ 22
+    go true b c d e = lit≤ tt
+    go false true c d e = lit≤ tt
+    go false false true d e = lit≤ tt
+    go false false false true e = lit≤ tt
+    go false false false false true = lit≤ tt
+    go false false false false false = lit≤ tt
+
+state-small : (s : Status) (pc : ℕ) → total (stateParts s pc) ≤ 57
+unfolding bytes
+state-small Idle pc = lit≤ tt
+state-small Running pc = omega (arith, counter-length pc)
+state-small Ended pc = omega (arith, counter-length pc)
+state-small (Trapped number) pc = omega (arith, counter-length pc, reason-small number)
+state-small (Waiting id count) pc = omega (arith, counter-length pc, decimal-small id, decimal-small count)
+
+line-small : (thread : ℕ) (s : Status) (pc : ℕ) → total (lineParts thread s pc) ≤ 75
+unfolding lineParts bytes
+line-small thread s pc = go (isIdle s)
+  where
+    whole : List (List ℕ)
+    whole = (bytes "thread " ∷ decimal thread ∷ stateParts s pc) ++ bytes "\n" ∷ []
+
+    small : total whole ≤ 75
+    small = omega (arith, total-append (stateParts s pc) (bytes "\n" ∷ []), decimal-small thread, state-small s pc)
+
+    go : (b : Bool) → total (cond b [] whole) ≤ 75
+    go true = lit≤ tt
+    go false = small
+
+lines-small : (m : Machine) (registers : List ℕ) (k : ℕ) → total (linesParts m registers k) ≤ 75 * k
+unfolding linesParts
+lines-small m registers zero = lit≤ tt
+lines-small m registers (suc k) =
+    let s = statusAt m k in
+    let pc = programCounter registers k in
+    omega (arith, total-append (linesParts m registers k) (lineParts k s pc), lines-small m registers k, line-small k s pc)
+
+off-small : (thread : ℕ) (s : Status) → total (offPart thread s) ≤ 11
+unfolding offPart bytes
+off-small thread s = go (isIdle s)
+  where
+    go : (b : Bool) → total (cond b (bytes " " ∷ decimal thread ∷ []) []) ≤ 11
+    go true = omega (arith, decimal-small thread)
+    go false = lit≤ tt
+
+offs-small : (m : Machine) (k : ℕ) → total (offParts m k) ≤ 11 * k
+unfolding offParts
+offs-small m zero = lit≤ tt
+offs-small m (suc k) = omega (arith, total-append (offParts m k) (offPart k (statusAt m k)), offs-small m k, off-small k (statusAt m k))
+
+off-line-small : (m : Machine) → total (offLine m) ≤ 101
+unfolding offLine bytes
+off-line-small m = go (eqb (m .enabled) 255)
+  where
+    whole : List (List ℕ)
+    whole = (bytes "threads off:" ∷ offParts m 8) ++ bytes "\n" ∷ []
+
+    small : total whole ≤ 101
+    small = omega (arith, total-append (offParts m 8) (bytes "\n" ∷ []), offs-small m 8)
+
+    go : (b : Bool) → total (cond b [] whole) ≤ 101
+    go true = lit≤ tt
+    go false = small
+
+-- the lines of eight threads and that of the threads off
+pub threads-small : (m : Machine) (registers : List ℕ) → total (threadParts m registers) ≤ 701
+threads-small m registers = omega (arith, total-append (linesParts m registers 8) (offLine m), lines-small m registers 8, off-line-small m)

@@ -1,0 +1,4 @@
+-- The lines of a machine's threads: what the contracts cite.
+pub mod Types
+pub mod Text
+pub mod Lines

@@ -1,0 +1,5 @@
+// The lines that the runner prints of a machine's threads, put into a lent buffer.
+mod line;
+mod lines;
+
+pub use lines::put_threads;

@@ -1,0 +1,62 @@
+// The lines of all threads: one for each that is on, and one for those that are off.
+ghost use mathlib.Core.Path.{_≡_};
+ghost use lib.ListN.{length};
+ghost use Rattle.text.specs.Buffer.{wrote};
+ghost use Rattle.thread_lines.specs.Lines.{linesParts, offParts, offLine, threadParts};
+ghost use Rattle.thread_lines.specs.Text.{putsAll};
+use crate::line::put_line;
+use crate::line::put_off;
+use machine::Machine;
+use text::put_text;
+
+// The lines of the threads that are on.
+fn put_lines(out: &mut [u8], at: usize, machine: Machine, registers: &[u32]) -> usize
+    requires { ⌜ length (now registers) ≡ 8704 ⌝ }
+    ensures { λ r. ⌜ wrote r (now (out .exit)) ≡ putsAll (wrote at (now (out .entry))) (linesParts machine (now (registers .entry)) 8) ⌝ }
+{
+    let mut next = at;
+    let mut thread: usize = 0;
+    while thread < 8 {
+        let entry = machine.threads[thread];
+        let status = entry.status;
+        let pc = registers[64 * thread + 63];
+        next = put_line(out, next, thread as u32, status, pc);
+        thread += 1;
+    }
+    next
+}
+
+// The numbers of the threads that are off.
+fn put_numbers(out: &mut [u8], at: usize, machine: Machine) -> usize
+    ensures { λ r. ⌜ wrote r (now (out .exit)) ≡ putsAll (wrote at (now (out .entry))) (offParts machine 8) ⌝ }
+{
+    let mut next = at;
+    let mut thread: usize = 0;
+    while thread < 8 {
+        let entry = machine.threads[thread];
+        let status = entry.status;
+        next = put_off(out, next, thread as u32, status);
+        thread += 1;
+    }
+    next
+}
+
+// The line of the threads that are off, unless all are on.
+fn put_off_line(out: &mut [u8], at: usize, machine: Machine) -> usize
+    ensures { λ r. ⌜ wrote r (now (out .exit)) ≡ putsAll (wrote at (now (out .entry))) (offLine machine) ⌝ }
+{
+    if machine.enabled == 255 {
+        return at;
+    }
+    let at = put_text(out, at, b"threads off:");
+    let at = put_numbers(out, at, machine);
+    put_text(out, at, b"\n")
+}
+
+// Puts the lines of a machine's threads at a place of the buffer, and answers the place behind them. A part that has no room is left out.
+pub fn put_threads(out: &mut [u8], at: usize, machine: Machine, registers: &[u32; 8704]) -> usize
+    ensures { λ r. ⌜ wrote r (now (out .exit)) ≡ putsAll (wrote at (now (out .entry))) (threadParts machine (now (registers .entry))) ⌝ }
+{
+    let at = put_lines(out, at, machine, registers);
+    put_off_line(out, at, machine)
+}

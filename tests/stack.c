@@ -1,0 +1,74 @@
+// Measures the stack that the library's calls take: each is made on a stack of its own, whose bytes tell how far it was used.
+// stack PROGRAM.. prints for each call the most bytes that it took over all programs.
+#define _XOPEN_SOURCE 700
+#include <stdio.h>
+#include <string.h>
+#include <ucontext.h>
+
+#include "korvammel.h"
+
+enum { START, RUN, WRITE, READ, WORDS, EMPTY, CALLS };
+static const char *const names[CALLS] = {"start", "run", "image_write", "image_read", "words"};
+
+static uint8_t stack[65536];
+static ucontext_t here, there;
+static int call;
+
+static uint32_t program[16384], registers[KORVAMMEL_REGISTERS];
+static size_t words;
+static uint8_t memory[128], record[KORVAMMEL_RECORD], image[KORVAMMEL_IMAGE(128)];
+
+// Every word of a program read, written again and named.
+static void take_words(void) {
+    for (size_t i = 0; i < words; i++) {
+        uint32_t instruction[KORVAMMEL_INSTRUCTION], word;
+        uint8_t name[8];
+        if (korvammel_read_word(program[i], instruction) != 0) continue;
+        korvammel_write_word(instruction, &word);
+        korvammel_name(instruction, name);
+    }
+}
+
+static void make(void) {
+    uint32_t result[2];
+    switch (call) {
+    case START: korvammel_start(3, registers, KORVAMMEL_REGISTERS, record); break;
+    case RUN: korvammel_run(program, words, registers, KORVAMMEL_REGISTERS, memory, sizeof memory, record, 1000, result); break;
+    case WRITE: korvammel_image_write(registers, KORVAMMEL_REGISTERS, memory, sizeof memory, record, image, sizeof image); break;
+    case READ: korvammel_image_read(image, sizeof image, registers, KORVAMMEL_REGISTERS, memory, sizeof memory, record); break;
+    case WORDS: take_words(); break;
+    default: break;
+    }
+}
+
+// The bytes of the stack that a call used, from the highest to the lowest that it changed.
+static size_t used(int number) {
+    size_t low = 0;
+    call = number;
+    memset(stack, 0xA5, sizeof stack);
+    getcontext(&there);
+    there.uc_stack.ss_sp = stack;
+    there.uc_stack.ss_size = sizeof stack;
+    there.uc_link = &here;
+    makecontext(&there, make, 0);
+    swapcontext(&here, &there);
+    while (low < sizeof stack && stack[low] == 0xA5) low++;
+    return sizeof stack - low;
+}
+
+int main(int argc, char **argv) {
+    size_t most[CALLS] = {0};
+    for (int i = 1; i < argc; i++) {
+        FILE *file = fopen(argv[i], "rb");
+        if (!file) return 2;
+        words = fread(program, 4, 16384, file); // the lowest byte first, as on this machine
+        fclose(file);
+        size_t without = used(EMPTY);
+        for (int number = 0; number < EMPTY; number++) {
+            size_t with = used(number);
+            if (with - without > most[number]) most[number] = with - without;
+        }
+    }
+    for (int number = 0; number < EMPTY; number++) printf("%s %zu\n", names[number], most[number]);
+    return 0;
+}
