@@ -1,7 +1,5 @@
-// A plain C interpreter of the house core, straight from document 01, to measure against. One switch, no cleverness.
-#include "plain.h"
-
-enum { IDLE, RUNNING, ENDED, TRAPPED, WAITING };
+// A plain C interpreter of the house core, straight from document 01, to measure against: a function a format, no cleverness.
+#include "rival.h"
 
 struct machine {
     const uint32_t *program;
@@ -9,7 +7,7 @@ struct machine {
     uint32_t *room;
     uint8_t *memory;
     size_t bytes;
-    struct plain_record *record;
+    struct rival_record *record;
 };
 
 static uint32_t bits(uint32_t w, int high, int low) { return w >> low & (0xFFFFFFFFu >> (31 - (high - low))); }
@@ -256,26 +254,26 @@ static struct outcome do_m(struct machine *m, uint32_t w, uint32_t *s, uint32_t 
     return on();
 }
 
-static int meet(struct plain_record *r, uint32_t t, uint32_t id, uint32_t second) {
+static int meet(struct rival_record *r, uint32_t t, uint32_t id, uint32_t second) {
     int bad = id > 31 || second > 7;
     for (uint32_t u = 0; u < 8 && !bad; u++)
         bad = u != t && r->threads[u].status == WAITING && r->threads[u].id == id && r->threads[u].count != second + 1;
     if (bad) {
-        r->threads[t] = (struct plain_thread){TRAPPED, 5, 0, 0};
+        r->threads[t] = (struct rival_thread){TRAPPED, 5, 0, 0};
         return 0;
     }
-    r->threads[t] = (struct plain_thread){WAITING, 0, (uint8_t)id, (uint8_t)(second + 1)};
+    r->threads[t] = (struct rival_thread){WAITING, 0, (uint8_t)id, (uint8_t)(second + 1)};
     uint32_t waiting = 0;
     for (int u = 0; u < 8; u++) waiting += r->threads[u].status == WAITING && r->threads[u].id == id;
     if (waiting == second + 1)
         for (int u = 0; u < 8; u++)
-            if (r->threads[u].status == WAITING && r->threads[u].id == id) r->threads[u] = (struct plain_thread){RUNNING, 0, 0, 0};
+            if (r->threads[u].status == WAITING && r->threads[u].id == id) r->threads[u] = (struct rival_thread){RUNNING, 0, 0, 0};
     return 1;
 }
 
 static void issue(struct machine *m, uint32_t t) {
     uint32_t *s = m->room + 64 * t, *v = m->room + 512 + 1024 * t, pc = s[63];
-    struct plain_record *r = m->record;
+    struct rival_record *r = m->record;
     struct outcome o;
     if (pc % 4 || pc / 4 >= m->words) {
         o = trap(4);
@@ -295,12 +293,12 @@ static void issue(struct machine *m, uint32_t t) {
     case TO: s[63] = o.x; break;
     case END: r->threads[t].status = ENDED; s[63] = pc + 4; break;
     case MEETS: if (meet(r, t, o.x, o.y)) s[63] = pc + 4; break;
-    case TRAP: r->threads[t] = (struct plain_thread){TRAPPED, (uint8_t)o.x, 0, 0}; break;
+    case TRAP: r->threads[t] = (struct rival_thread){TRAPPED, (uint8_t)o.x, 0, 0}; break;
     }
 }
 
-enum plain_answer plain_run(const uint32_t *program, size_t words, uint32_t *room, uint8_t *memory, size_t bytes, struct plain_record *record,
-                            uint32_t budget, uint32_t *issues) {
+enum rival_answer RUN(const uint32_t *program, size_t words, uint32_t *room, uint8_t *memory, size_t bytes, struct rival_record *record,
+                      uint32_t budget, uint32_t *issues) {
     struct machine m = {program, words, room, memory, bytes, record};
     for (uint32_t made = 0;; made++) {
         uint32_t t = 8;
@@ -309,10 +307,10 @@ enum plain_answer plain_run(const uint32_t *program, size_t words, uint32_t *roo
         *issues = made;
         if (t == 8) {
             for (int u = 0; u < 8; u++)
-                if (record->threads[u].status == WAITING) return PLAIN_STUCK;
-            return PLAIN_STOPPED;
+                if (record->threads[u].status == WAITING) return RIVAL_STUCK;
+            return RIVAL_STOPPED;
         }
-        if (made == budget) return PLAIN_SPENT;
+        if (made == budget) return RIVAL_SPENT;
         issue(&m, t);
     }
 }

@@ -1,9 +1,9 @@
 //! Images written and read: of records well formed or not, whole or damaged, in buffers of right and wrong length.
 
 use crate::library::{self, record_bytes, zero_bytes};
-use crate::random::Random;
 use crate::records::{any_record, damaged, stand_in, Verdicts};
-use crate::report::{same, Tally};
+use compare::random::Random;
+use compare::report::{same, Tally};
 use reference::image;
 use reference::machine::{start, Record, ROOM_WORDS};
 

@@ -4,13 +4,11 @@
 
 mod images;
 mod library;
-mod random;
 mod records;
-mod report;
 mod runs;
 mod words;
 
-use report::{compare, Tally};
+use compare::report::{compare, repeated, Tally};
 use std::ops::RangeInclusive;
 
 /// A part of the comparison: its name, what it compares, and the seeds of its cases.
@@ -22,8 +20,6 @@ struct Part<'a> {
 }
 
 fn main() {
-    let repeat: f64 = std::env::var("REPEAT").map_or(1.0, |x| x.parse().expect("REPEAT is a number"));
-    let random = |seeds: u64| 1..=(seeds as f64 * repeat) as u64;
     // A difference is a panic, which the report prints with its seed.
     std::panic::set_hook(Box::new(|_| {}));
     let verdicts = records::Verdicts::new();
@@ -33,9 +29,9 @@ fn main() {
         Part { name: "words", title: "words read, named and written again", seeds: 0..=0xFFFF, case: &words::reading },
         Part { name: "all-words", title: "all words read, named and written again", seeds: 0..=0xFFFF, case: &words::reading_all },
         Part { name: "writing", title: "instructions written", seeds: 0..=words::FORMATS * words::OPCODES - 1, case: &words::writing },
-        Part { name: "runs", title: "lists of runs", seeds: random(2_000_000), case: &runs::lists },
-        Part { name: "refusals", title: "hostile records run, and starts", seeds: random(200_000), case: &refusals },
-        Part { name: "images", title: "hostile records and images written and read", seeds: random(200_000), case: &images },
+        Part { name: "runs", title: "lists of runs", seeds: repeated(2_000_000), case: &runs::lists },
+        Part { name: "refusals", title: "hostile records run, and starts", seeds: repeated(200_000), case: &refusals },
+        Part { name: "images", title: "hostile records and images written and read", seeds: repeated(200_000), case: &images },
     ];
     let wanted: Vec<String> = std::env::args().skip(1).collect();
     if let Some(name) = wanted.iter().find(|name| parts.iter().all(|part| part.name != **name)) {

@@ -1,7 +1,7 @@
 //! Machine records, well formed or not, and their bytes, whole or damaged.
 
 use crate::library::{any_status, record_bytes};
-use crate::random::Random;
+use compare::random::Random;
 use reference::image;
 use reference::machine::{start, Record, Status, ROOM_WORDS, ZERO};
 

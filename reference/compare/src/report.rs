@@ -53,7 +53,7 @@ pub fn same<T: PartialEq + std::fmt::Debug>(what: &str, expected: &[T], found: &
     }
     assert_eq!(expected.len(), found.len(), "{what}: length");
     let i = (0..found.len()).find(|i| expected[*i] != found[*i]).expect("a place that differs");
-    panic!("{what} {i}: the second program has {:?}, the library {:?}", expected[i], found[i]);
+    panic!("{what} {i}: the second program has {:?}, the other {:?}", expected[i], found[i]);
 }
 
 /// The program of a case, as a listing.
@@ -103,6 +103,12 @@ fn summary(tallies: &[&Tally]) -> String {
     let ended = list("", &endings, &|tally, i| tally.endings[i]);
     let traps = list("traps ", &digits[..7], &|tally, i| tally.traps[i]);
     format!("{} calls{numbers}{issues}{ended}{traps}", sum(&|tally| tally.cases))
+}
+
+/// The seeds of a random comparison: so many, or REPEAT times as many.
+pub fn repeated(seeds: u64) -> RangeInclusive<u64> {
+    let repeat: f64 = std::env::var("REPEAT").map_or(1.0, |x| x.parse().expect("REPEAT is a number"));
+    1..=(seeds as f64 * repeat) as u64
 }
 
 /// Runs a comparison over its seeds, on every processor; whether no difference was met.

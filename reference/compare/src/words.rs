@@ -1,7 +1,7 @@
 //! Words read, named and written: every upper half word, and every instruction at the edges of its fields.
 
 use crate::library;
-use crate::report::Tally;
+use compare::report::Tally;
 use reference::word::{self, Instruction, Reading};
 
 /// An instruction as the header's six numbers.
