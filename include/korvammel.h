@@ -34,12 +34,33 @@
 extern "C" {
 #endif
 
+/* Raised whenever an array's length, the place of something in it or the meaning of a number changes: a board's program can ask for the
+ * one that it was written for. */
+#define KORVAMMEL_API 1
+
 /* Words of the register room: thread t (0..7), scalar i at 64t+i; vector i, lane j at 512+1024t+16i+j. */
 #define KORVAMMEL_REGISTERS 8704
+#define KORVAMMEL_SCALAR(t, i) (64 * (t) + (i))
+#define KORVAMMEL_LANE(t, i, j) (512 + 1024 * (t) + 16 * (i) + (j))
 
 /* Bytes of a machine record: as an image begins, "HD", last, enabled, and then for each of the eight threads "TH", thread, status,
- * reason, id, count. Status: 0 idle, 1 running, 2 ended, 3 trapped (with a reason), 4 waiting (with a barrier id and a count). */
+ * reason, id, count. */
 #define KORVAMMEL_RECORD 60
+
+/* The places of these numbers in a record; of thread t (0..7) its status, and what the status carries, 0 where it does not. */
+#define KORVAMMEL_LAST 2
+#define KORVAMMEL_ENABLED 3
+#define KORVAMMEL_STATUS(t) (7 * (t) + 7)
+#define KORVAMMEL_REASON(t) (7 * (t) + 8)
+#define KORVAMMEL_BARRIER(t) (7 * (t) + 9)
+#define KORVAMMEL_COUNT(t) (7 * (t) + 10)
+
+/* Statuses. */
+#define KORVAMMEL_IDLE 0
+#define KORVAMMEL_RUNNING 1
+#define KORVAMMEL_ENDED 2
+#define KORVAMMEL_TRAPPED 3 /* with a reason, 1 to 6 */
+#define KORVAMMEL_WAITING 4 /* with a barrier id, 0 to 31, and a count, 1 to 8 */
 
 /* Bytes of the image of a machine with so many bytes of memory. */
 #define KORVAMMEL_IMAGE(memory_length) (36948 + 68 * ((memory_length) / 64))
@@ -61,9 +82,12 @@ uint32_t korvammel_read_word(uint32_t word, uint32_t instruction[KORVAMMEL_INSTR
  * for its field, no line of that format has the opcode, or a number that the format does not use is not 0. */
 uint32_t korvammel_write_word(const uint32_t instruction[KORVAMMEL_INSTRUCTION], uint32_t *word);
 
+/* Bytes that an instruction's name is put into. */
+#define KORVAMMEL_NAME 8
+
 /* Puts an instruction's name, in ASCII with zeros behind it, and answers its length, 2 to 8. Where the instruction has no word, so that
  * korvammel_write_word answers 6, it answers 0 and leaves `name`. */
-size_t korvammel_name(const uint32_t instruction[KORVAMMEL_INSTRUCTION], uint8_t name[8]);
+size_t korvammel_name(const uint32_t instruction[KORVAMMEL_INSTRUCTION], uint8_t name[KORVAMMEL_NAME]);
 
 /* Starts the threads of a mask, bit t for thread t: clears the registers, sets every s59 to 0xFFFF, and writes the record. Answers 0,
  * 2 or 5; where it answers 2 or 5 it writes a record with every number 0, and leaves the registers. */
@@ -75,11 +99,14 @@ uint32_t korvammel_start(uint32_t mask, uint32_t *registers, size_t registers_le
 #define KORVAMMEL_STUCK 2   /* no thread is running, and one waits at a barrier */
 #define KORVAMMEL_SPENT 3   /* the budget of issues is used up */
 
+/* Numbers that a run reports: how it ended, and how many issues it made. */
+#define KORVAMMEL_RESULT 2
+
 /* Runs a program until it is stopped, stuck or spent. Leaves the registers, the memory and the record as the issues made them, and
  * puts how it ended and the number of issues made into `result`. Answers 0, 1, 2, 3, 10 or 4; where it answers a number of the
  * table, `result` becomes 0, 0 (refused, no issue), and all else is left. */
 uint32_t korvammel_run(const uint32_t *program, size_t program_length, uint32_t *registers, size_t registers_length, uint8_t *memory,
-                       size_t memory_length, uint8_t record[KORVAMMEL_RECORD], uint32_t budget, uint32_t result[2]);
+                       size_t memory_length, uint8_t record[KORVAMMEL_RECORD], uint32_t budget, uint32_t result[KORVAMMEL_RESULT]);
 
 /* Writes a machine's image: every byte of it. Answers 0, 2, 3, 9, 10 or 4. */
 uint32_t korvammel_image_write(const uint32_t *registers, size_t registers_length, const uint8_t *memory, size_t memory_length,

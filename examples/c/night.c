@@ -5,6 +5,10 @@
 
 #include "korvammel.h"
 
+#if KORVAMMEL_API != 1
+#error "night.c was written for version 1 of the library"
+#endif
+
 static uint8_t bytes[4 * 16384 + 1]; // one more than the longest program has, so that a longer file is seen
 static uint32_t program[16384];
 static uint32_t registers[KORVAMMEL_REGISTERS];
@@ -42,7 +46,7 @@ int main(int argc, char **argv) {
     }
     size_t words = words_of(size_of(argv[1]));
     uint32_t number = korvammel_start(3, registers, KORVAMMEL_REGISTERS, record);
-    uint32_t result[2] = {0, 0};
+    uint32_t result[KORVAMMEL_RESULT] = {0, 0};
     if (number == 0) number = korvammel_run(program, words, registers, KORVAMMEL_REGISTERS, memory, sizeof memory, record, 1000, result);
     if (number != 0) {
         fprintf(stderr, "refused %u\n", (unsigned)number);
@@ -50,8 +54,9 @@ int main(int argc, char **argv) {
     }
     printf("%s after %u issue%s\n", endings[result[0]], (unsigned)result[1], result[1] == 1 ? "" : "s");
     for (int t = 0; t < 8; t++) {
-        const uint8_t *entry = record + 4 + 7 * t;
-        if (entry[3] != 0) printf("thread %d %s at %08X\n", t, statuses[entry[3]], (unsigned)registers[64 * t + 63]);
+        uint8_t status = record[KORVAMMEL_STATUS(t)];
+        unsigned address = registers[KORVAMMEL_SCALAR(t, 63)];
+        if (status != KORVAMMEL_IDLE) printf("thread %d %s at %08X\n", t, statuses[status], address);
     }
     for (int relay = 64; relay < 77; relay++) putchar(memory[relay] ? '1' : '0');
     putchar('\n');
