@@ -7,13 +7,14 @@ use crate::numbers::wide;
 use answer::Verdict;
 use answer::first_refusal;
 use answer::sizes_verdict;
+use image::RECORD_LENGTH;
 
 // Writes a machine's image.
 #[no_mangle]
 pub extern "C" fn korvammel_image_write(
     registers: &[u32],
     memory: &[u8],
-    bytes: &[u8; 60],
+    bytes: &[u8; RECORD_LENGTH],
     buffer: &mut [u8],
 ) -> u32
     ensures { λ r. ⌜ left r (now (buffer .exit)) ≡ writeCall (now (registers .entry)) (now (memory .entry)) (now (bytes .entry)) (now (buffer .entry)) ⌝ }
@@ -38,7 +39,7 @@ pub extern "C" fn korvammel_image_read(
     image: &[u8],
     registers: &mut [u32],
     memory: &mut [u8],
-    bytes: &mut [u8; 60],
+    bytes: &mut [u8; RECORD_LENGTH],
 ) -> u32
     ensures { λ r. ⌜ restored r (now (registers .exit)) (now (memory .exit)) (now (bytes .exit)) ≡ readCall (now (image .entry)) (now (registers .entry)) (now (memory .entry)) ⌝ }
 {

@@ -29,8 +29,8 @@ module _ (m : Machine) (h : wellFormed m ≡ true) where
   bytes = recordBytes m
 
   even : (q : ℕ) → q < recordKinds → (i : ℕ) → i < rowOf noBlocks (kindAt q) .count → length (bodyOf alone (kindAt q) i) ≡ rowOf noBlocks (kindAt q) .size
-  even zero l = body-length-of alone Hd tt
-  even (suc zero) l = body-length-of alone Th tt
+  even zero l = body-length-of noBlocks alone Hd tt
+  even (suc zero) l = body-length-of noBlocks alone Th tt
   even (suc (suc q)) l = absurd (omega arith)
 
   heads : headsUpTo recordKinds noBlocks bytes ≡ true

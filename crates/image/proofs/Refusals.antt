@@ -69,7 +69,7 @@ module _ (room bytes size : ℕ) where
     pub long : startOf (ofBlocks (bytes / 64)) kinds ≡ size
     long = whole-length (ofBlocks (bytes / 64)) ∙ sym (good-length bytes size (k .length))
 
-pub lengths : (registers memory : List ℕ) (size : ℕ) → Sized (length registers) (length memory) size → Lengths registers memory
+pub lengths : (registers memory : List ℕ) (size : ℕ) → Sized (length registers) (length memory) size → Lengths (shapeOf memory) registers memory
 lengths registers memory size k =
     record { room = room-words (length registers) (k .registers); whole = memory-whole (length memory) (k .memory); few = memory-blocks (length memory) (k .memory) }
 
