@@ -11,7 +11,7 @@ use Rattle.machine.specs.State.{State}
 use Rattle.image.specs.Bytes.{bytesOf}
 use Rattle.image.specs.Image.{shapeOf, Lengths, Suits, bodyOf, image}
 use Rattle.image.specs.Join.{total, joined}
-use Rattle.image.specs.Layout.{kinds, rowOf, kindAt, orderOf, placesOf, placesLength, Numbered, headLength, headOf, recordSize, extentOf, recordOf, sectionOf, laidOut, startOf, recordAt}
+use Rattle.image.specs.Layout.{kinds, rowOf, kindAt, positionIn, orderOf, placesOf, placesLength, Numbered, headLength, headOf, recordSize, extentOf, recordOf, sectionOf, laidOut, startOf, recordAt}
 use Rattle.image.specs.Types.{Kind, Hd, Th, Sr, Vr, Mm, Places, Nothing, ByThread, ByRegister, ByBlock, Shape, Row}
 use Rattle.image.proofs.Join.{length-even, length-joined, total-le, fits-in}
 
@@ -68,6 +68,7 @@ extent-few s Mm h = omega arith
 
 -- a kind stands at its position
 pub kind-order : (k : Kind) → kindAt (orderOf k) ≡ k
+unfolding orderOf positionIn
 kind-order Hd = refl
 kind-order Th = refl
 kind-order Sr = refl
@@ -75,11 +76,21 @@ kind-order Vr = refl
 kind-order Mm = refl
 
 pub order-few : (k : Kind) → orderOf k < kinds
+unfolding orderOf positionIn
 order-few Hd = omega arith
 order-few Th = omega arith
 order-few Sr = omega arith
 order-few Vr = omega arith
 order-few Mm = omega arith
+
+-- HD and TH are the first two
+pub hd-order : orderOf Hd ≡ 0
+unfolding orderOf positionIn
+hd-order = refl
+
+pub th-order : orderOf Th ≡ 1
+unfolding orderOf positionIn
+th-order = refl
 
 -- the bytes of words, and of a block
 bytes-length : (n : ℕ) (l : List ℕ) → length (bytesOf n l) ≡ 4 * n

@@ -11,6 +11,7 @@ use Rattle.image.specs.Layout.{recordKinds, recordSize}
 use Rattle.image.specs.Types.{Th}
 use Rattle.image.proofs.Join.{grown-start, grown-join, grown-one, grown-new, grown-end}
 use Rattle.image.proofs.RecordIn.{fixed-place, body-room-in, entryAt, entries-read, threads-read}
+use Rattle.image.proofs.Rows.{th-order}
 use Rattle.image.proofs.Tests.{all-none, all-next}
 use native.Mathlib.Omega.{arith}
 use borrow.Author.Needs.{needs}
@@ -28,14 +29,14 @@ entry-at-requires c κs =
     let a = c .before .before .before .before .before .before .args in
     let place = fixed-place (a .shape) Th (c .before .before .first-body .result) (c .before .before .before .record-size .result) (c .before .before .first-body .ensures) (c .before .before .before .record-size .ensures ∙ ap recordSize (c .before .before .before .before .row-of .ensures)) in
     let l = c .before .loop in
-    omega (arith, l .inv .1, place (l .t), body-room-in (a .shape) Th recordKinds (l .t) _ (omega arith) (c .loop-test .taken) (c .before .before .before .before .before .before .pre .1))
+    omega (arith, l .inv .1, place (l .t), body-room-in (a .shape) Th recordKinds (l .t) _ (omega (arith, th-order)) (c .loop-test .taken) (c .before .before .before .before .before .before .pre .1))
 
 add-at : tie.Need-add-at Inv-loop μ-loop
 add-at c =
     let a = c .before .before .before .before .before .before .before .before .before .args in
     let place = fixed-place (a .shape) Th (c .before .before .before .before .before .first-body .result) (c .before .before .before .before .before .before .record-size .result) (c .before .before .before .before .before .first-body .ensures) (c .before .before .before .before .before .before .record-size .ensures ∙ ap recordSize (c .before .before .before .before .before .before .before .row-of .ensures)) in
     let l = c .before .before .before .before .loop in
-    omega (arith, l .inv .1, place (l .t), c .before .before .before .before .before .before .record-size .ensures ∙ ap recordSize (c .before .before .before .before .before .before .before .row-of .ensures), body-room-in (a .shape) Th recordKinds (l .t) _ (omega arith) (c .before .before .before .loop-test .taken) (c .before .before .before .before .before .before .before .before .before .pre .1))
+    omega (arith, l .inv .1, place (l .t), c .before .before .before .before .before .before .record-size .ensures ∙ ap recordSize (c .before .before .before .before .before .before .before .row-of .ensures), body-room-in (a .shape) Th recordKinds (l .t) _ (omega (arith, th-order)) (c .before .before .before .loop-test .taken) (c .before .before .before .before .before .before .before .before .before .pre .1))
 
 loop-again : tie.Need-loop-again Inv-loop μ-loop
 loop-again c =
