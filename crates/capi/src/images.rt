@@ -4,6 +4,7 @@ ghost use Rattle.answer.specs.Left.{left};
 ghost use Rattle.capi.specs.Images.{writeCall, restored, readCall};
 use crate::numbers::read_number;
 use crate::numbers::wide;
+use answer::FIXED_PART;
 use answer::Verdict;
 use answer::first_refusal;
 use answer::sizes_verdict;
@@ -19,7 +20,7 @@ pub extern "C" fn korvammel_image_write(
 ) -> u32
     ensures { λ r. ⌜ left r (now (buffer .exit)) ≡ writeCall (now (registers .entry)) (now (memory .entry)) (now (bytes .entry)) (now (buffer .entry)) ⌝ }
 {
-    let lengths = sizes_verdict(registers.len(), memory.len(), buffer.len());
+    let lengths = sizes_verdict(FIXED_PART, registers.len(), memory.len(), buffer.len());
     let opening = image::read_record(bytes);
     let content = opening.verdict;
     let machine = opening.machine;

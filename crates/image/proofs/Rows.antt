@@ -7,6 +7,7 @@ use native.Mathlib.Numerals.{add-one}
 use native.Mathlib.Omega.{arith}
 use lib.ListN.{length, take, drop, length-append, length-drop}
 use lib.Seq.{length-take-le}
+use Rattle.answer.specs.Refusal.{fixedPart, blockRecord}
 use Rattle.machine.specs.State.{State}
 use Rattle.image.specs.Bytes.{bytesOf}
 use Rattle.image.specs.Image.{shapeOf, Lengths, Suits, bodyOf, image}
@@ -132,7 +133,7 @@ pub record-next : (r : Row) (at i : ℕ) → recordAt r at i + recordSize r ≡ 
 record-next r at i = omega (arith, mul-suc (recordSize r) i, ap (λ n. recordSize r * n) (add-one i))
 
 -- the whole length, as the paper says it
-pub whole-length : (s : Shape) → startOf s kinds ≡ 36948 + 68 * s .blocks
+pub whole-length : (s : Shape) → startOf s kinds ≡ fixedPart + blockRecord * s .blocks
 unfolding startOf total
 whole-length s = omega arith
 

@@ -7,7 +7,7 @@ use mathlib.Core.Option.{none}
 use mathlib.Core.Path.{_≡_}
 use lib.ListN.{length, getD, take}
 use Rattle.answer.specs.Answer.{given}
-use Rattle.answer.specs.Refusal.{roomWords, badMemory, imageLength}
+use Rattle.answer.specs.Refusal.{roomWords, badMemory, fixedPart, imageLength}
 use Rattle.machine.specs.State.{State}
 use Rattle.machine.specs.WellFormed.{wellFormed}
 use Rattle.image.specs.Calls.{writing, write, reading, read}
@@ -39,8 +39,8 @@ pub record Beginnings (memory : List ℕ) : Type 0 where
   pub th : startOf (shapeOf memory) (orderOf Th) ≡ 4
   pub sr : startOf (shapeOf memory) (orderOf Sr) ≡ recordLength
   pub vr : startOf (shapeOf memory) (orderOf Vr) ≡ 2132
-  pub mm : startOf (shapeOf memory) (orderOf Mm) ≡ 36948
-  pub end : startOf (shapeOf memory) kinds ≡ imageLength (length memory)
+  pub mm : startOf (shapeOf memory) (orderOf Mm) ≡ fixedPart
+  pub end : startOf (shapeOf memory) kinds ≡ imageLength fixedPart (length memory)
 
 abbrev pub Begins : Type 0
 Begins = (memory : List ℕ) → Beginnings memory

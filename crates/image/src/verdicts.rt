@@ -13,6 +13,7 @@ use crate::entries::record_in;
 use crate::heads::kinds_stand;
 use crate::layout::KINDS;
 use crate::layout::Shape;
+use answer::FIXED_PART;
 use answer::Verdict;
 use answer::sizes_verdict;
 use machine::Machine;
@@ -64,7 +65,7 @@ pub fn judge(shape: Shape, image: &[u8], room: usize, bytes: usize) -> Judgement
     requires { ⌜ shape ≡ ofBlocks (bytes / 64) ⌝ }
     ensures { λ r. ⌜ (numbered (r .verdict) ≡ readNumber (now (image .entry)) room bytes) × (r .machine ≡ refusedOr (readNumber (now (image .entry)) room bytes) (λ n. zeroed) (machineIn (ofBlocks (bytes / 64)) (now (image .entry)))) ⌝ }
 {
-    let sizes = sizes_verdict(room, bytes, image.len());
+    let sizes = sizes_verdict(FIXED_PART, room, bytes, image.len());
     match sizes {
         Verdict::Refused(number) => refuse(number),
         Verdict::Accepted => judge_records(shape, image),

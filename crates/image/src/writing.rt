@@ -18,6 +18,7 @@ use crate::layout::Shape;
 use crate::layout::kind_at;
 use crate::layout::row_of;
 use crate::outcome::WriteAnswer;
+use answer::FIXED_PART;
 use answer::Verdict;
 use answer::sizes_verdict;
 use machine::Machine;
@@ -137,7 +138,7 @@ fn put_image(shape: Shape, registers: &[u32], memory: &[u8], machine: Machine, b
 pub fn write(registers: &[u32], memory: &[u8], machine: Machine, buffer: &mut [u8]) -> WriteAnswer
     ensures { λ r. ⌜ written r (now (buffer .exit)) ≡ write (state machine (now (registers .entry)) (now (memory .entry))) (now (buffer .entry)) ⌝ }
 {
-    let sizes = sizes_verdict(registers.len(), memory.len(), buffer.len());
+    let sizes = sizes_verdict(FIXED_PART, registers.len(), memory.len(), buffer.len());
     match sizes {
         Verdict::Refused(number) => WriteAnswer::Refused(number),
         Verdict::Accepted => {
