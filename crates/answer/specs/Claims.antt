@@ -4,7 +4,7 @@ use mathlib.Core.Bool.{true, false}
 use mathlib.Core.List.{List, [], _∷_}
 use mathlib.Core.Option.{Option, none, some}
 use mathlib.Core.Path.{_≡_}
-use Rattle.answer.specs.Refusal.{badProgram, badMask, check, firstThatApplies, sizesNumber}
+use Rattle.answer.specs.Refusal.{badProgram, badMask, fixedPart, check, firstThatApplies, sizesNumber}
 
 -- "A call checks in the order 1, 2, 3, 5, 9, 10, 4, .. and the first that applies is given."
 unfoldable pub FirstIsGiven : Type 0
@@ -33,7 +33,7 @@ rows =
 
 abbrev pub All : List Row → Type 0
 All [] = Unit {0}
-All (r ∷ rs) = (sizesNumber (r .room) (r .bytes) (r .size) ≡ r .number) × All rs
+All (r ∷ rs) = (sizesNumber fixedPart (r .room) (r .bytes) (r .size) ≡ r .number) × All rs
 
 unfoldable pub RowsHold : Type 0
 RowsHold = All rows

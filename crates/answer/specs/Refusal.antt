@@ -31,13 +31,20 @@ badMemory bytes = ltb bytes 64 || ltb 65536 bytes || not (eqb (bytes % 64) 0)
 abbrev pub badMask : ℕ → Bool
 badMask mask = eqb mask 0 || ltb 255 mask
 
--- "36,948 + 68 x (memory length / 64)"
-abbrev pub imageLength : ℕ → ℕ
-imageLength bytes = 36948 + 68 * (bytes / 64)
+-- "36,948 + 68 x (memory length / 64)": a fixed part, and a record for each block of memory
+abbrev pub fixedPart : ℕ
+fixedPart = 36948
+
+abbrev pub blockRecord : ℕ
+blockRecord = 68
+
+-- the length of an image with such a fixed part, of a memory of so many bytes
+abbrev pub imageLength : ℕ → ℕ → ℕ
+imageLength fixed bytes = fixed + blockRecord * (bytes / 64)
 
 -- "image length differs from 36,948 + 68 x (memory length / 64)"
-abbrev pub badLength : ℕ → ℕ → Bool
-badLength bytes size = not (eqb size (imageLength bytes))
+abbrev pub badLength : ℕ → ℕ → ℕ → Bool
+badLength fixed bytes size = not (eqb size (imageLength fixed bytes))
 
 -- a number of the table, and whether it applies
 pub record Check : Type 0 where
@@ -63,16 +70,16 @@ lengthChecks words room bytes =
 unfoldable pub lengthsNumber : ℕ → ℕ → ℕ → Option ℕ
 lengthsNumber words room bytes = firstThatApplies (lengthChecks words room bytes)
 
--- what both calls of an image take: a register room of so many words, a memory and an image of so many bytes
-abbrev pub sizeChecks : ℕ → ℕ → ℕ → List Check
-sizeChecks room bytes size =
+-- what both calls of an image take: the fixed part of its length, a register room of so many words, a memory and an image of so many bytes
+abbrev pub sizeChecks : ℕ → ℕ → ℕ → ℕ → List Check
+sizeChecks fixed room bytes size =
     check bad-registers (badRegisters room)
     ∷ check bad-memory (badMemory bytes)
-    ∷ check bad-length (badLength bytes size)
+    ∷ check bad-length (badLength fixed bytes size)
     ∷ []
 
-unfoldable pub sizesNumber : ℕ → ℕ → ℕ → Option ℕ
-sizesNumber room bytes size = firstThatApplies (sizeChecks room bytes size)
+unfoldable pub sizesNumber : ℕ → ℕ → ℕ → ℕ → Option ℕ
+sizesNumber fixed room bytes size = firstThatApplies (sizeChecks fixed room bytes size)
 
 -- the number of a refused call, as the code says it
 abbrev pub numbered : Verdict → Option ℕ

@@ -1,6 +1,8 @@
 // What a call gives back: a value, or a number of document 01's table "Numbers given back".
 mod refusal;
 
+pub use refusal::BLOCK_RECORD;
+pub use refusal::FIXED_PART;
 pub use refusal::Verdict;
 pub use refusal::bad_mask;
 pub use refusal::bad_memory;

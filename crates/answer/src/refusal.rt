@@ -67,17 +67,23 @@ pub fn lengths_verdict(words: usize, room: usize, bytes: usize) -> Verdict
     Verdict::Accepted
 }
 
-// Whether an image of so many bytes is not that of a memory of so many.
-fn bad_length(bytes: usize, size: usize) -> bool
+// The fixed part of an image's length, and the bytes of the record of a block of memory.
+pub const FIXED_PART: u32 = 36948;
+
+pub const BLOCK_RECORD: usize = 68;
+
+// Whether an image of so many bytes, with such a fixed part, is not that of a memory of so many.
+fn bad_length(fixed: u32, bytes: usize, size: usize) -> bool
     requires { ⌜ bytes ≤ 65536 ⌝ }
-    ensures { λ r. ⌜ r ≡ badLength bytes size ⌝ }
+    ensures { λ r. ⌜ r ≡ badLength fixed bytes size ⌝ }
 {
-    size != 36948 + 68 * (bytes / 64)
+    size != fixed as usize + BLOCK_RECORD * (bytes / 64)
 }
 
-// The number that an image's call is refused with, if any: of the words of a register room, the bytes of a memory, and those of an image.
-pub fn sizes_verdict(room: usize, bytes: usize, size: usize) -> Verdict
-    ensures { λ r. ⌜ numbered r ≡ sizesNumber room bytes size ⌝ }
+// The number that an image's call is refused with, if any: of the fixed part of its length, the words of a register room, the bytes
+// of a memory, and those of an image.
+pub fn sizes_verdict(fixed: u32, room: usize, bytes: usize, size: usize) -> Verdict
+    ensures { λ r. ⌜ numbered r ≡ sizesNumber fixed room bytes size ⌝ }
 {
     let wrong_room = bad_registers(room);
     let wrong_memory = bad_memory(bytes);
@@ -87,7 +93,7 @@ pub fn sizes_verdict(room: usize, bytes: usize, size: usize) -> Verdict
     if wrong_memory {
         return Verdict::Refused(3);
     }
-    let wrong_length = bad_length(bytes, size);
+    let wrong_length = bad_length(fixed, bytes, size);
     if wrong_length {
         return Verdict::Refused(9);
     }

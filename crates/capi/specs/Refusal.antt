@@ -3,7 +3,7 @@ use Prim.Native.Nat.{ℕ}
 use mathlib.Core.List.{List, _++_}
 use mathlib.Core.Option.{Option}
 use lib.ListN.{length}
-use Rattle.answer.specs.Refusal.{firstThatApplies, lengthChecks, sizeChecks}
+use Rattle.answer.specs.Refusal.{fixedPart, firstThatApplies, lengthChecks, sizeChecks}
 use Rattle.image.specs.Opening.{openingChecks}
 
 -- "A call checks in the order 1, 2, 3, 5, 9, 10, 4": a run takes a program, a register room, a memory, and a record's bytes
@@ -14,4 +14,4 @@ runNumber program registers memory opening =
 -- an image's writing takes no program, and a buffer
 unfoldable pub writeNumber : List ℕ → List ℕ → List ℕ → List ℕ → Option ℕ
 writeNumber registers memory opening buffer =
-    firstThatApplies (sizeChecks (length registers) (length memory) (length buffer) ++ openingChecks opening)
+    firstThatApplies (sizeChecks fixedPart (length registers) (length memory) (length buffer) ++ openingChecks opening)

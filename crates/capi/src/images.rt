@@ -4,21 +4,23 @@ ghost use Rattle.answer.specs.Left.{left};
 ghost use Rattle.capi.specs.Images.{writeCall, restored, readCall};
 use crate::numbers::read_number;
 use crate::numbers::wide;
+use answer::FIXED_PART;
 use answer::Verdict;
 use answer::first_refusal;
 use answer::sizes_verdict;
+use image::RECORD_LENGTH;
 
 // Writes a machine's image.
 #[no_mangle]
 pub extern "C" fn korvammel_image_write(
     registers: &[u32],
     memory: &[u8],
-    bytes: &[u8; 60],
+    bytes: &[u8; RECORD_LENGTH],
     buffer: &mut [u8],
 ) -> u32
     ensures { λ r. ⌜ left r (now (buffer .exit)) ≡ writeCall (now (registers .entry)) (now (memory .entry)) (now (bytes .entry)) (now (buffer .entry)) ⌝ }
 {
-    let lengths = sizes_verdict(registers.len(), memory.len(), buffer.len());
+    let lengths = sizes_verdict(FIXED_PART, registers.len(), memory.len(), buffer.len());
     let opening = image::read_record(bytes);
     let content = opening.verdict;
     let machine = opening.machine;
@@ -38,7 +40,7 @@ pub extern "C" fn korvammel_image_read(
     image: &[u8],
     registers: &mut [u32],
     memory: &mut [u8],
-    bytes: &mut [u8; 60],
+    bytes: &mut [u8; RECORD_LENGTH],
 ) -> u32
     ensures { λ r. ⌜ restored r (now (registers .exit)) (now (memory .exit)) (now (bytes .exit)) ≡ readCall (now (image .entry)) (now (registers .entry)) (now (memory .entry)) ⌝ }
 {

@@ -7,10 +7,15 @@ use crate::numbers::wide;
 use answer::Verdict;
 use answer::first_refusal;
 use answer::lengths_verdict;
+use image::RECORD_LENGTH;
 
 // Starts the threads of a mask, and writes the machine record.
 #[no_mangle]
-pub extern "C" fn korvammel_start(mask: u32, registers: &mut [u32], bytes: &mut [u8; 60]) -> u32
+pub extern "C" fn korvammel_start(
+    mask: u32,
+    registers: &mut [u32],
+    bytes: &mut [u8; RECORD_LENGTH],
+) -> u32
     ensures { λ r. ⌜ begun r (now (registers .exit)) (now (bytes .exit)) ≡ startCall mask (now (registers .entry)) ⌝ }
 {
     let start = interpreter::start(mask, registers);
@@ -26,7 +31,7 @@ pub extern "C" fn korvammel_run(
     program: &[u32],
     registers: &mut [u32],
     memory: &mut [u8],
-    bytes: &mut [u8; 60],
+    bytes: &mut [u8; RECORD_LENGTH],
     budget: u32,
     result: &mut [u32; 2],
 ) -> u32

@@ -8,7 +8,7 @@ use Rattle.image.specs.Bytes.{bytesOf}
 use Rattle.image.specs.Fields.{accepted, threadOf}
 use Rattle.image.specs.Image.{entryIn, threadsIn, machineIn, recordIn}
 use Rattle.image.specs.Join.{joined, total, allBelow}
-use Rattle.image.specs.Layout.{recordOf, sectionOf, startOf, bodyAt, standsAt, headsOf, headsIn}
+use Rattle.image.specs.Layout.{positionIn, orderOf, recordOf, sectionOf, startOf, bodyAt, standsAt, headsOf, headsIn}
 use Rattle.image.specs.Opening.{recordBytes, openingNumber}
 use Rattle.image.specs.Refusal.{writeNumber, readNumber}
 use Rattle.image.specs.Rows.{BytesHold, WriteOrder, ReadOrder, OpeningOrder}
@@ -22,9 +22,9 @@ unfolding writeNumber firstThatApplies wellFormedWithin numbersInRange allThread
 write-order = record { room = refl; memory = refl; buffer = refl; not-well-formed = refl; taken = refl }
 
 pub read-order : ReadOrder
-unfolding readNumber firstThatApplies headsIn headsOf allBelow standsAt startOf total
+unfolding readNumber firstThatApplies headsIn headsOf allBelow standsAt startOf total orderOf positionIn
 read-order = record { room = refl; memory = refl; length = refl; marks = refl }
 
 pub opening-order : OpeningOrder
-unfolding openingNumber recordBytes joined sectionOf recordOf firstThatApplies headsOf allBelow standsAt startOf total recordIn entryIn threadsIn machineIn bodyAt threadOf accepted wellFormedWithin numbersInRange allThreads anyThread countThreads all any count
+unfolding openingNumber recordBytes joined sectionOf recordOf firstThatApplies headsOf allBelow standsAt startOf total orderOf positionIn recordIn entryIn threadsIn machineIn bodyAt threadOf accepted wellFormedWithin numbersInRange allThreads anyThread countThreads all any count
 opening-order = record { taken = refl; not-well-formed = refl; not-carried = refl; marked = refl; out-of-place = refl }

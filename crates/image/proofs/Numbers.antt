@@ -10,6 +10,7 @@ use Rattle.image.specs.Claims.{Exact}
 use Rattle.answer.specs.Answer.{given, refused}
 use Rattle.image.specs.Fields.{statusFields, fieldsOf, numbered, sameFields, accepted, threadOf}
 use Rattle.image.specs.Types.{Status, Idle, Running, Ended, Trapped, Waiting, Fields}
+use Rattle.machine.specs.Machine.{zeroThread, withStatus}
 use Rattle.machine.proofs.Tests.{both}
 
 -- the numbers of a status name it
@@ -38,8 +39,8 @@ pub exact : Exact
 unfolding threadOf accepted
 exact f e = (there (numbered f), back)
   where
-    picked : (s : Status) (b : Bool) → sameFields (statusFields s) f ≡ b → cond b (given (record { status = s })) (refused 4) ≡ given e → fieldsOf e ≡ f
-    picked s true h g = let q : record { status = s } ≡ e = cc in ap fieldsOf (sym q) ∙ same-fields (statusFields s) f h
+    picked : (s : Status) (b : Bool) → sameFields (statusFields s) f ≡ b → cond b (given (withStatus zeroThread s)) (refused 4) ≡ given e → fieldsOf e ≡ f
+    picked s true h g = let q : withStatus zeroThread s ≡ e = cc in ap fieldsOf (sym q) ∙ same-fields (statusFields s) f h
     picked s false h g = absurd (let z : _≡_ {A = ℕ} 0 1 = cc in omega arith)
 
     there : (o : Option Status) → accepted f o ≡ given e → fieldsOf e ≡ f

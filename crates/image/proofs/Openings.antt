@@ -1,4 +1,4 @@
--- The bytes of a machine record are 60, what is accepted of them is well formed, and its image opens with them.
+-- How many the bytes of a machine record are, that what is accepted of them is well formed, and its image opens with them.
 use Prim.Native.Nat.{ℕ}
 use mathlib.Core.Bool.{true}
 use mathlib.Core.List.{List, [], _++_}
@@ -16,13 +16,13 @@ use Rattle.image.specs.Claims.{OpensWith}
 use Rattle.image.specs.Image.{shapeOf, bodyOf, image, isEntry, entryIn, machineIn, recordIn}
 use Rattle.image.specs.Join.{total, joined, allBelow}
 use Rattle.image.specs.Layout.{recordKinds, rowOf, laidOut, sectionOf, startOf, headsUpTo}
-use Rattle.image.specs.Opening.{noBlocks, recordBytes, openingNumber, readOpening}
+use Rattle.image.specs.Opening.{noBlocks, recordBytes, recordLength, openingNumber, readOpening}
 use Rattle.image.specs.Refusal.{contentNumber}
 use Rattle.image.specs.Types.{Hd, Th, Sr, Vr, Mm, Machine}
 use Rattle.image.proofs.Refusals.{content-good}
 use Rattle.image.proofs.Rows.{body-length-of, section-length}
 
-pub opening-start : startOf noBlocks recordKinds ≡ 60
+pub opening-start : startOf noBlocks recordKinds ≡ recordLength
 unfolding startOf total
 opening-start = omega arith
 
@@ -31,12 +31,12 @@ module _ (m : Machine) where
   alone = state m [] []
 
   pub hd-length : length (sectionOf (rowOf noBlocks Hd) (bodyOf alone Hd)) ≡ 4
-  hd-length = section-length (rowOf noBlocks Hd) (bodyOf alone Hd) (body-length-of alone Hd tt)
+  hd-length = section-length (rowOf noBlocks Hd) (bodyOf alone Hd) (body-length-of noBlocks alone Hd tt)
 
   pub th-length : length (sectionOf (rowOf noBlocks Th) (bodyOf alone Th)) ≡ 56
-  th-length = section-length (rowOf noBlocks Th) (bodyOf alone Th) (body-length-of alone Th tt)
+  th-length = section-length (rowOf noBlocks Th) (bodyOf alone Th) (body-length-of noBlocks alone Th tt)
 
-  pub opening-length : length (recordBytes m) ≡ 60
+  pub opening-length : length (recordBytes m) ≡ recordLength
   unfolding recordBytes joined
   opening-length =
       omega (arith, length-append (sectionOf (rowOf noBlocks Hd) (bodyOf alone Hd)) (sectionOf (rowOf noBlocks Th) (bodyOf alone Th)), hd-length, th-length)
@@ -62,5 +62,5 @@ opens-with s =
     let l = opening-length (s .machine) in
     let one = length-append x sr in
     let two = length-append (x ++ sr) vr in
-    take-append-le 60 ((x ++ sr) ++ vr) mm (omega (arith, l, one, two))
-    ∙ (take-append-le 60 (x ++ sr) vr (omega (arith, l, one)) ∙ (take-append-le 60 x sr (omega (arith, l)) ∙ take-all 60 x (omega (arith, l))))
+    take-append-le recordLength ((x ++ sr) ++ vr) mm (omega (arith, l, one, two))
+    ∙ (take-append-le recordLength (x ++ sr) vr (omega (arith, l, one)) ∙ (take-append-le recordLength x sr (omega (arith, l)) ∙ take-all recordLength x (omega (arith, l))))

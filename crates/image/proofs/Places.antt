@@ -4,12 +4,12 @@ use native.Mathlib.Omega.{arith}
 use lib.ListN.{length}
 use Rattle.image.specs.Claims.{Begins, Placed}
 use Rattle.image.specs.Join.{total}
-use Rattle.image.specs.Layout.{startOf}
+use Rattle.image.specs.Layout.{positionIn, orderOf, startOf}
 use Rattle.image.proofs.Refusals.{memory-blocks, memory-whole}
 use Rattle.image.proofs.Written.{body}
 
 pub begins : Begins
-unfolding startOf total
+unfolding startOf total orderOf positionIn
 begins memory = record { hd = refl; th = refl; sr = refl; vr = refl; mm = refl; end = omega arith }
 
 pub placed : Placed

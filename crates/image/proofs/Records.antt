@@ -12,7 +12,7 @@ use Rattle.machine.specs.Machine.{zeroed}
 use Rattle.machine.specs.WellFormed.{wellFormed}
 use Rattle.image.specs.Claims.{RecordAgain}
 use Rattle.image.specs.Image.{bodyOf, machineIn, recordIn}
-use Rattle.image.specs.Layout.{recordKinds, kindAt, rowOf, bodyIn, headsUpTo}
+use Rattle.image.specs.Layout.{recordKinds, kindAt, positionIn, orderOf, rowOf, bodyIn, headsUpTo}
 use Rattle.image.specs.Opening.{noBlocks, recordBytes, opened, openingNumber, readOpening}
 use Rattle.image.specs.Refusal.{contentNumber}
 use Rattle.image.specs.Types.{Hd, Th, Machine}
@@ -29,8 +29,8 @@ module _ (m : Machine) (h : wellFormed m ≡ true) where
   bytes = recordBytes m
 
   even : (q : ℕ) → q < recordKinds → (i : ℕ) → i < rowOf noBlocks (kindAt q) .count → length (bodyOf alone (kindAt q) i) ≡ rowOf noBlocks (kindAt q) .size
-  even zero l = body-length-of alone Hd tt
-  even (suc zero) l = body-length-of alone Th tt
+  even zero l = body-length-of noBlocks alone Hd tt
+  even (suc zero) l = body-length-of noBlocks alone Th tt
   even (suc (suc q)) l = absurd (omega arith)
 
   heads : headsUpTo recordKinds noBlocks bytes ≡ true
@@ -38,11 +38,11 @@ module _ (m : Machine) (h : wellFormed m ≡ true) where
   heads = heads-up-to recordKinds noBlocks (bodyOf alone) even
 
   hd : bodyIn noBlocks bytes Hd 0 ≡ bodyOf alone Hd 0
-  unfolding recordBytes
+  unfolding recordBytes orderOf positionIn
   hd = body-up-to recordKinds noBlocks (bodyOf alone) even 0 (omega arith) 0 (omega arith)
 
   th : (t : ℕ) → t < 8 → bodyIn noBlocks bytes Th t ≡ bodyOf alone Th t
-  unfolding recordBytes
+  unfolding recordBytes orderOf positionIn
   th = body-up-to recordKinds noBlocks (bodyOf alone) even 1 (omega arith)
 
   machine : machineIn noBlocks bytes ≡ m

@@ -11,7 +11,7 @@ use lib.ListN.{length}
 use Rattle.answer.specs.Answer.{given, refused}
 use Rattle.answer.proofs.Checks.{passed, first-after, either-given}
 use Rattle.answer.proofs.Lengths.{memory-most}
-use Rattle.answer.specs.Refusal.{badRegisters, badMemory, imageLength, badLength, check, firstThatApplies, sizeChecks, sizesNumber, refusedOr}
+use Rattle.answer.specs.Refusal.{badRegisters, badMemory, fixedPart, imageLength, badLength, check, firstThatApplies, sizeChecks, sizesNumber, refusedOr}
 use Rattle.machine.specs.State.{State, state}
 use Rattle.machine.proofs.Tests.{neither}
 use Rattle.machine.specs.Machine.{zeroed}
@@ -32,7 +32,7 @@ last-check n applies = refl
 pub record Sized (room bytes size : ℕ) : Type 0 where
   pub registers : badRegisters room ≡ false
   pub memory : badMemory bytes ≡ false
-  pub length : badLength bytes size ≡ false
+  pub length : badLength fixedPart bytes size ≡ false
 
 pub memory-blocks : (bytes : ℕ) → badMemory bytes ≡ false → bytes / 64 ≤ 1024
 memory-blocks bytes h = omega (arith, memory-most bytes h)
@@ -46,22 +46,22 @@ room-words room h = eqb-true room 8704 (not-false (eqb room 8704) h)
 pub words-room : (room : ℕ) → room ≡ 8704 → badRegisters room ≡ false
 words-room room h = rw (eq-eqb room 8704 h)
 
-pub good-length : (bytes size : ℕ) → badLength bytes size ≡ false → size ≡ imageLength bytes
-good-length bytes size h = eqb-true size (imageLength bytes) (not-false (eqb size (imageLength bytes)) h)
+pub good-length : (bytes size : ℕ) → badLength fixedPart bytes size ≡ false → size ≡ imageLength fixedPart bytes
+good-length bytes size h = eqb-true size (imageLength fixedPart bytes) (not-false (eqb size (imageLength fixedPart bytes)) h)
 
-pub length-good : (bytes size : ℕ) → size ≡ imageLength bytes → badLength bytes size ≡ false
-length-good bytes size h = rw (eq-eqb size (imageLength bytes) h)
+pub length-good : (bytes size : ℕ) → size ≡ imageLength fixedPart bytes → badLength fixedPart bytes size ≡ false
+length-good bytes size h = rw (eq-eqb size (imageLength fixedPart bytes) h)
 
 module _ (room bytes size : ℕ) where
-  pub sized : sizesNumber room bytes size ≡ none → Sized room bytes size
+  pub sized : sizesNumber fixedPart room bytes size ≡ none → Sized room bytes size
   unfolding sizesNumber firstThatApplies
   sized h =
       let a = passed (badRegisters room) 2 _ h in
       let b = passed (badMemory bytes) 3 _ (a .1) in
-      let c = passed (badLength bytes size) 9 none (b .1) in
+      let c = passed (badLength fixedPart bytes size) 9 none (b .1) in
       record { registers = a .0; memory = b .0; length = c .0 }
 
-  pub sizes-none : Sized room bytes size → sizesNumber room bytes size ≡ none
+  pub sizes-none : Sized room bytes size → sizesNumber fixedPart room bytes size ≡ none
   unfolding sizesNumber firstThatApplies
   sizes-none k = rw (k .registers, k .memory, k .length)
 
@@ -69,7 +69,7 @@ module _ (room bytes size : ℕ) where
     pub long : startOf (ofBlocks (bytes / 64)) kinds ≡ size
     long = whole-length (ofBlocks (bytes / 64)) ∙ sym (good-length bytes size (k .length))
 
-pub lengths : (registers memory : List ℕ) (size : ℕ) → Sized (length registers) (length memory) size → Lengths registers memory
+pub lengths : (registers memory : List ℕ) (size : ℕ) → Sized (length registers) (length memory) size → Lengths (shapeOf memory) registers memory
 lengths registers memory size k =
     record { room = room-words (length registers) (k .registers); whole = memory-whole (length memory) (k .memory); few = memory-blocks (length memory) (k .memory) }
 
@@ -77,11 +77,11 @@ lengths registers memory size k =
 
 module _ (s : State) (buffer : List ℕ) where
   abbrev sizes : Option ℕ
-  sizes = sizesNumber (length (s .registers)) (length (s .memory)) (length buffer)
+  sizes = sizesNumber fixedPart (length (s .registers)) (length (s .memory)) (length buffer)
 
   number-is : writeRefusal s buffer ≡ refusedOr sizes some (cond (not (wellFormed (s .machine))) (some 4) none)
   unfolding writeNumber sizesNumber
-  number-is = first-after (sizeChecks (length (s .registers)) (length (s .memory)) (length buffer)) (check 4 (not (wellFormed (s .machine))) ∷ []) ∙ ap (refusedOr sizes some) (last-check 4 (not (wellFormed (s .machine))))
+  number-is = first-after (sizeChecks fixedPart (length (s .registers)) (length (s .memory)) (length buffer)) (check 4 (not (wellFormed (s .machine))) ∷ []) ∙ ap (refusedOr sizes some) (last-check 4 (not (wellFormed (s .machine))))
 
   answer : (o : Option ℕ) → writeRefusal s buffer ≡ o
       → refusedOr o (λ number. writing (refused number) buffer) (writing (given tt) (image s)) ≡ write s buffer
@@ -134,9 +134,9 @@ module _ (s : Shape) (l : List ℕ) where
   unfolding recordsNumber contentNumber
   records-good = content-good (headsIn s l) (recordIn s l)
 
-pub read-number : (l : List ℕ) (room bytes : ℕ) → readNumber l room bytes ≡ refusedOr (sizesNumber room bytes (length l)) some (recordsNumber (ofBlocks (bytes / 64)) l)
+pub read-number : (l : List ℕ) (room bytes : ℕ) → readNumber l room bytes ≡ refusedOr (sizesNumber fixedPart room bytes (length l)) some (recordsNumber (ofBlocks (bytes / 64)) l)
 unfolding readNumber sizesNumber recordsNumber
-read-number l room bytes = first-after (sizeChecks room bytes (length l)) (recordChecks (ofBlocks (bytes / 64)) l)
+read-number l room bytes = first-after (sizeChecks fixedPart room bytes (length l)) (recordChecks (ofBlocks (bytes / 64)) l)
 
 module _ (l registers memory : List ℕ) where
   pub read-refused : (n : ℕ) → readRefusal l registers memory ≡ some n → reading (refused n) (state zeroed registers memory) ≡ read l registers memory
@@ -147,5 +147,5 @@ module _ (l registers memory : List ℕ) where
   unfolding read
   read-taken h = rw h
 
-pub read-sized : (l : List ℕ) (room bytes : ℕ) → readNumber l room bytes ≡ none → (sizesNumber room bytes (length l) ≡ none) × (recordsNumber (ofBlocks (bytes / 64)) l ≡ none)
-read-sized l room bytes h = either-given (sizesNumber room bytes (length l)) _ (sym (read-number l room bytes) ∙ h)
+pub read-sized : (l : List ℕ) (room bytes : ℕ) → readNumber l room bytes ≡ none → (sizesNumber fixedPart room bytes (length l) ≡ none) × (recordsNumber (ofBlocks (bytes / 64)) l ≡ none)
+read-sized l room bytes h = either-given (sizesNumber fixedPart room bytes (length l)) _ (sym (read-number l room bytes) ∙ h)

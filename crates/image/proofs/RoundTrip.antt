@@ -8,7 +8,7 @@ use native.Mathlib.Nat.{le-of-eq}
 use native.Mathlib.Omega.{arith}
 use lib.ListN.{length}
 use Rattle.answer.specs.Answer.{Answer, given, refused}
-use Rattle.answer.specs.Refusal.{imageLength, sizesNumber, refusedOr}
+use Rattle.answer.specs.Refusal.{fixedPart, imageLength, sizesNumber, refusedOr}
 use Rattle.machine.specs.State.{State, state}
 use Rattle.machine.proofs.Tests.{both}
 use Rattle.machine.specs.Machine.{zeroed}
@@ -47,8 +47,8 @@ accepts : (s : State) (size : ℕ) (registers memory : List ℕ) → Sized (leng
     → length registers ≡ length (s .registers) → length memory ≡ length (s .memory) → readRefusal (image s) registers memory ≡ none
 accepts s size registers memory k h rl ml =
     let w = lengths (s .registers) (s .memory) size k in
-    let z : sizesNumber (length registers) (length memory) (length (image s)) ≡ none =
-    (λ i. sizesNumber (rl i) (ml i) (image-long s size k i)) ∙ sizes-none (length (s .registers)) (length (s .memory)) size k in
+    let z : sizesNumber fixedPart (length registers) (length memory) (length (image s)) ≡ none =
+    (λ i. sizesNumber fixedPart (rl i) (ml i) (image-long s size k i)) ∙ sizes-none (length (s .registers)) (length (s .memory)) size k in
     let g = ap (λ n. recordsNumber (ofBlocks (n / 64)) (image s)) ml ∙ records-none (shapeOf (s .memory)) (image s) (heads-back s w) (record-back s w h) in
     read-number (image s) (length registers) (length memory) ∙ (λ i. refusedOr (z i) some (g i))
 
@@ -105,7 +105,7 @@ read-then-written l registers memory buffer bytes h bl =
     let e = read-none l registers memory h in
     let st = stateIn (shapeOf memory) l in
     let k = sizes-none (length (st .registers)) (length (st .memory)) (length l) (state-sizes l registers memory bytes e) in
-    let z : sizesNumber (length (st .registers)) (length (st .memory)) (length buffer) ≡ none = rw bl k in
+    let z : sizesNumber fixedPart (length (st .registers)) (length (st .memory)) (length buffer) ≡ none = rw bl k in
     ap (λ r. write (r .left) buffer) (sym (read-taken l registers memory e))
     ∙ (sym (write-taken st buffer z (entries l registers memory bytes e .1)) ∙ ap (writing (given tt)) (same-image l registers memory bytes e))
 
@@ -128,7 +128,7 @@ reads-exactly l registers memory bytes = (there, back)
     back p =
         let m = p .1 in
         let t = m .saved in
-        let size = imageLength (length (t .memory)) in
+        let size = imageLength fixedPart (length (t .memory)) in
         let k : Sized (length (t .registers)) (length (t .memory)) size = record {
           registers = words-room (length (t .registers)) (m .sound .room);
           memory = m .sound .memory;

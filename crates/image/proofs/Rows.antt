@@ -1,5 +1,5 @@
 -- What holds of every row of the table: a case for each kind, once; and the lengths that follow from it.
-use Prim.Native.Nat.{ℕ, suc, _+_, _*_, _/_, _≤_, _<_}
+use Prim.Native.Nat.{ℕ, suc, _+_, _*_, _≤_, _<_}
 use mathlib.Core.List.{List}
 use mathlib.Core.Path.{_≡_, refl, ap}
 use native.Mathlib.Nat.{mul-suc}
@@ -7,11 +7,12 @@ use native.Mathlib.Numerals.{add-one}
 use native.Mathlib.Omega.{arith}
 use lib.ListN.{length, take, drop, length-append, length-drop}
 use lib.Seq.{length-take-le}
+use Rattle.answer.specs.Refusal.{fixedPart, blockRecord}
 use Rattle.machine.specs.State.{State}
 use Rattle.image.specs.Bytes.{bytesOf}
 use Rattle.image.specs.Image.{shapeOf, Lengths, Suits, bodyOf, image}
 use Rattle.image.specs.Join.{total, joined}
-use Rattle.image.specs.Layout.{kinds, rowOf, kindAt, orderOf, placesOf, placesLength, Numbered, headLength, headOf, recordSize, extentOf, recordOf, sectionOf, laidOut, startOf, recordAt}
+use Rattle.image.specs.Layout.{kinds, rowOf, kindAt, positionIn, orderOf, placesOf, placesLength, Numbered, headLength, headOf, recordSize, extentOf, recordOf, sectionOf, laidOut, startOf, recordAt}
 use Rattle.image.specs.Types.{Kind, Hd, Th, Sr, Vr, Mm, Places, Nothing, ByThread, ByRegister, ByBlock, Shape, Row}
 use Rattle.image.proofs.Join.{length-even, length-joined, total-le, fits-in}
 
@@ -31,19 +32,19 @@ pub head-length : (r : Row) (i : ℕ) → length (headOf r i) ≡ headLength (r 
 head-length r i = omega (arith, places-length (r .places) i)
 
 -- what each kind asks of the lengths, they have
-pub suits : (registers memory : List ℕ) → Lengths registers memory → (k : Kind) → Suits k registers memory
-suits registers memory w Hd = tt
-suits registers memory w Th = tt
-suits registers memory w Sr = w
-suits registers memory w Vr = w
-suits registers memory w Mm = w
+pub suits : (a : Shape) (registers memory : List ℕ) → Lengths a registers memory → (k : Kind) → Suits a k registers memory
+suits a registers memory w Hd = tt
+suits a registers memory w Th = tt
+suits a registers memory w Sr = w
+suits a registers memory w Vr = w
+suits a registers memory w Mm = w
 
-pub numbered : (registers memory : List ℕ) (k : Kind) (i : ℕ) → Suits k registers memory → i < rowOf (shapeOf memory) k .count → Numbered (rowOf (shapeOf memory) k .places) i
-numbered registers memory Hd i w l = tt
-numbered registers memory Th i w l = omega arith
-numbered registers memory Sr i w l = omega arith
-numbered registers memory Vr i w l = omega arith
-numbered registers memory Mm i w l = omega (arith, w .few)
+pub numbered : (a : Shape) (registers memory : List ℕ) (k : Kind) (i : ℕ) → Suits a k registers memory → i < rowOf a k .count → Numbered (rowOf a k .places) i
+numbered a registers memory Hd i w l = tt
+numbered a registers memory Th i w l = omega arith
+numbered a registers memory Sr i w l = omega arith
+numbered a registers memory Vr i w l = omega arith
+numbered a registers memory Mm i w l = omega (arith, w .few)
 
 pub size-few : (s : Shape) (k : Kind) → rowOf s k .size ≤ 256
 size-few s Hd = omega arith
@@ -68,6 +69,7 @@ extent-few s Mm h = omega arith
 
 -- a kind stands at its position
 pub kind-order : (k : Kind) → kindAt (orderOf k) ≡ k
+unfolding orderOf positionIn
 kind-order Hd = refl
 kind-order Th = refl
 kind-order Sr = refl
@@ -75,11 +77,21 @@ kind-order Vr = refl
 kind-order Mm = refl
 
 pub order-few : (k : Kind) → orderOf k < kinds
+unfolding orderOf positionIn
 order-few Hd = omega arith
 order-few Th = omega arith
 order-few Sr = omega arith
 order-few Vr = omega arith
 order-few Mm = omega arith
+
+-- HD and TH are the first two
+pub hd-order : orderOf Hd ≡ 0
+unfolding orderOf positionIn
+hd-order = refl
+
+pub th-order : orderOf Th ≡ 1
+unfolding orderOf positionIn
+th-order = refl
 
 -- the bytes of words, and of a block
 bytes-length : (n : ℕ) (l : List ℕ) → length (bytesOf n l) ≡ 4 * n
@@ -90,17 +102,16 @@ block-length : (n b i : ℕ) (l : List ℕ) → n * b ≡ length l → i < b →
 block-length n b i l e h = length-take-le n (drop (n * i) l) (rw (length-drop (n * i) l) (omega (arith, fits-in n i b h)))
 
 -- the body of a record is as long as its row says
-pub body-length-of : (s : State) (k : Kind) → Suits k (s .registers) (s .memory) → (i : ℕ) → i < rowOf (shapeOf (s .memory)) k .count
-    → length (bodyOf s k i) ≡ rowOf (shapeOf (s .memory)) k .size
-body-length-of s Hd w i h = refl
-body-length-of s Th w i h = refl
-body-length-of s Sr w i h = bytes-length 64 _
-body-length-of s Vr w i h = bytes-length 16 _
-body-length-of s Mm w i h = block-length 64 (length (s .memory) / 64) i (s .memory) (w .whole) h
+pub body-length-of : (a : Shape) (s : State) (k : Kind) → Suits a k (s .registers) (s .memory) → (i : ℕ) → i < rowOf a k .count
+    → length (bodyOf s k i) ≡ rowOf a k .size
+body-length-of a s Hd w i h = refl
+body-length-of a s Th w i h = refl
+body-length-of a s Sr w i h = bytes-length 64 _
+body-length-of a s Vr w i h = bytes-length 16 _
+body-length-of a s Mm w i h = block-length 64 (a .blocks) i (s .memory) (w .whole) h
 
-pub body-length : (s : State) → Lengths (s .registers) (s .memory) → (k : Kind) (i : ℕ) → i < rowOf (shapeOf (s .memory)) k .count
-    → length (bodyOf s k i) ≡ rowOf (shapeOf (s .memory)) k .size
-body-length s w k = body-length-of s k (suits (s .registers) (s .memory) w k)
+pub body-length : (a : Shape) (s : State) → Lengths a (s .registers) (s .memory) → (k : Kind) (i : ℕ) → i < rowOf a k .count → length (bodyOf s k i) ≡ rowOf a k .size
+body-length a s w k = body-length-of a s k (suits a (s .registers) (s .memory) w k)
 
 -- Lengths, over any row.
 
@@ -122,7 +133,7 @@ pub record-next : (r : Row) (at i : ℕ) → recordAt r at i + recordSize r ≡ 
 record-next r at i = omega (arith, mul-suc (recordSize r) i, ap (λ n. recordSize r * n) (add-one i))
 
 -- the whole length, as the paper says it
-pub whole-length : (s : Shape) → startOf s kinds ≡ 36948 + 68 * s .blocks
+pub whole-length : (s : Shape) → startOf s kinds ≡ fixedPart + blockRecord * s .blocks
 unfolding startOf total
 whole-length s = omega arith
 
@@ -163,6 +174,6 @@ module _ (s : Shape) (body : Kind → ℕ → List ℕ) (even : (k : Kind) (i : 
   unfolding laidOut
   laid-length = sections-length kinds
 
-pub image-length : (s : State) → Lengths (s .registers) (s .memory) → length (image s) ≡ startOf (shapeOf (s .memory)) kinds
+pub image-length : (s : State) → Lengths (shapeOf (s .memory)) (s .registers) (s .memory) → length (image s) ≡ startOf (shapeOf (s .memory)) kinds
 unfolding image
-image-length s w = laid-length (shapeOf (s .memory)) (bodyOf s) (body-length s w)
+image-length s w = laid-length (shapeOf (s .memory)) (bodyOf s) (body-length (shapeOf (s .memory)) s w)

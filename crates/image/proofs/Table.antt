@@ -11,7 +11,7 @@ use lib.ListN.{length, getD, take, drop}
 use lib.Seq.{take-all, take-add, take-at, drop-drop, drop-at, getD-drop, getD-take}
 use Rattle.machine.proofs.Tests.{both}
 use Rattle.image.specs.Join.{joined}
-use Rattle.image.specs.Layout.{kinds, rowOf, kindAt, orderOf, headLength, headOf, recordSize, extentOf, recordOf, sectionOf, laidUpTo, laidOut, startOf, recordAt, bodyAt, bodyIn, standsAt, headsOf, headsUpTo, headsIn}
+use Rattle.image.specs.Layout.{kinds, rowOf, kindAt, positionIn, orderOf, headLength, headOf, recordSize, extentOf, recordOf, sectionOf, laidUpTo, laidOut, startOf, recordAt, bodyAt, bodyIn, standsAt, headsOf, headsUpTo, headsIn}
 use Rattle.image.specs.Types.{Kind, Shape, Row}
 use Rattle.image.proofs.Join.{fits-in}
 use Rattle.image.proofs.Parts.{cut-take, joined-same, piece, pieces, piece-even, pieces-even}
@@ -137,6 +137,7 @@ unfolding startOf
 kinds-back s l = pieces kinds (λ p. extentOf (rowOf s (kindAt p))) l
 
 at-order : (q : ℕ) → q < kinds → orderOf (kindAt q) ≡ q
+unfolding orderOf positionIn
 at-order zero h = refl
 at-order (suc zero) h = refl
 at-order (suc (suc zero)) h = refl

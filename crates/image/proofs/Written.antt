@@ -75,7 +75,7 @@ rows-back n count p words b room =
     (λ i h. words-back n (drop (p + n * i) words) (rw (length-drop (p + n * i) words) (omega (arith, fits-in n i count h))) (λ k. rw (getD-drop (p + n * i) words k 0) (b (p + n * i + k))))
     ∙ pieces-even count n p words
 
-module _ (s : State) (w : Lengths (s .registers) (s .memory)) where
+module _ (s : State) (w : Lengths (shapeOf (s .memory)) (s .registers) (s .memory)) where
   abbrev a : Shape
   a = shapeOf (s .memory)
 
@@ -84,11 +84,11 @@ module _ (s : State) (w : Lengths (s .registers) (s .memory)) where
 
   pub body : (k : Kind) (i : ℕ) → i < rowOf a k .count → bodyIn a l k i ≡ bodyOf s k i
   unfolding image
-  body = laid-body a (bodyOf s) (body-length s w)
+  body = laid-body a (bodyOf s) (body-length a s w)
 
   pub heads-back : headsIn a l ≡ true
   unfolding image
-  heads-back = laid-heads a (bodyOf s) (body-length s w)
+  heads-back = laid-heads a (bodyOf s) (body-length a s w)
 
   pub memory-back : memoryIn a l ≡ s .memory
   unfolding memoryIn

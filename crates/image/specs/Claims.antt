@@ -7,14 +7,14 @@ use mathlib.Core.Option.{none}
 use mathlib.Core.Path.{_≡_}
 use lib.ListN.{length, getD, take}
 use Rattle.answer.specs.Answer.{given}
-use Rattle.answer.specs.Refusal.{roomWords, badMemory, imageLength}
+use Rattle.answer.specs.Refusal.{roomWords, badMemory, fixedPart, imageLength}
 use Rattle.machine.specs.State.{State}
 use Rattle.machine.specs.WellFormed.{wellFormed}
 use Rattle.image.specs.Calls.{writing, write, reading, read}
 use Rattle.image.specs.Fields.{fieldsOf, threadOf}
 use Rattle.image.specs.Image.{shapeOf, bodyOf, image}
 use Rattle.image.specs.Layout.{kinds, rowOf, orderOf, startOf, bodyIn}
-use Rattle.image.specs.Opening.{recordBytes, opened, readOpening}
+use Rattle.image.specs.Opening.{recordBytes, recordLength, opened, readOpening}
 use Rattle.image.specs.Types.{Kind, Hd, Th, Sr, Vr, Mm, Machine, Thread, Fields}
 
 -- every number of a list is a word, or a byte: what a lent slice of them says by its type
@@ -37,10 +37,10 @@ pub record Sound (s : State) : Type 0 where
 pub record Beginnings (memory : List ℕ) : Type 0 where
   pub hd : startOf (shapeOf memory) (orderOf Hd) ≡ 0
   pub th : startOf (shapeOf memory) (orderOf Th) ≡ 4
-  pub sr : startOf (shapeOf memory) (orderOf Sr) ≡ 60
+  pub sr : startOf (shapeOf memory) (orderOf Sr) ≡ recordLength
   pub vr : startOf (shapeOf memory) (orderOf Vr) ≡ 2132
-  pub mm : startOf (shapeOf memory) (orderOf Mm) ≡ 36948
-  pub end : startOf (shapeOf memory) kinds ≡ imageLength (length memory)
+  pub mm : startOf (shapeOf memory) (orderOf Mm) ≡ fixedPart
+  pub end : startOf (shapeOf memory) kinds ≡ imageLength fixedPart (length memory)
 
 abbrev pub Begins : Type 0
 Begins = (memory : List ℕ) → Beginnings memory
@@ -51,7 +51,7 @@ Placed = (s : State) → Sound s → (k : Kind) (i : ℕ) → i < rowOf (shapeOf
 
 -- the bytes of the machine record alone are those that its image opens with
 abbrev pub OpensWith : Type 0
-OpensWith = (s : State) → take 60 (image s) ≡ recordBytes (s .machine)
+OpensWith = (s : State) → take recordLength (image s) ≡ recordBytes (s .machine)
 
 -- Both ways.
 

@@ -4,6 +4,7 @@ use mathlib.Core.Bool.{Bool, _&&_, cond}
 use mathlib.Core.Option.{Option, none, some}
 use lib.Dec.{eqb}
 use Rattle.answer.specs.Answer.{Answer, given, refused, bad-record}
+use Rattle.machine.specs.Machine.{zeroThread, withStatus}
 use Rattle.image.specs.Types.{Status, Idle, Running, Ended, Trapped, Waiting, Thread, Fields}
 
 -- the four numbers, by their places
@@ -37,7 +38,7 @@ sameFields a b =
 -- the entry, if the numbers are its own: not where "an image field not carried is not 0". Their ranges are those of a well-formed record.
 unfoldable pub accepted : Fields → Option Status → Answer Thread
 accepted f none = refused bad-record
-accepted f (some s) = cond (sameFields (statusFields s) f) (given (record { status = s })) (refused bad-record)
+accepted f (some s) = cond (sameFields (statusFields s) f) (given (withStatus zeroThread s)) (refused bad-record)
 
 -- the entry that has these numbers
 unfoldable pub threadOf : Fields → Answer Thread

@@ -20,19 +20,19 @@ use Rattle.image.specs.Types.{Kind, Hd, Th, Sr, Vr, Mm, Shape, Machine, 
 abbrev pub shapeOf : List ℕ → Shape
 shapeOf memory = ofBlocks (length memory / 64)
 
--- the lengths of the buffers lent to a call that is not refused
-pub record Lengths (registers memory : List ℕ) : Type 0 where
+-- the lengths of the buffers lent to a call that is not refused, of an image of a shape
+pub record Lengths (a : Shape) (registers memory : List ℕ) : Type 0 where
   pub room : length registers ≡ roomWords
-  pub whole : 64 * (length memory / 64) ≡ length memory
-  pub few : length memory / 64 ≤ 1024
+  pub whole : 64 * a .blocks ≡ length memory
+  pub few : a .blocks ≤ 1024
 
 -- what the records of a kind ask of them: HD and TH hold the machine record alone
-abbrev pub Suits : Kind → List ℕ → List ℕ → Type 0
-Suits Hd registers memory = Unit {0}
-Suits Th registers memory = Unit {0}
-Suits Sr registers memory = Lengths registers memory
-Suits Vr registers memory = Lengths registers memory
-Suits Mm registers memory = Lengths registers memory
+abbrev pub Suits : Shape → Kind → List ℕ → List ℕ → Type 0
+Suits a Hd registers memory = Unit {0}
+Suits a Th registers memory = Unit {0}
+Suits a Sr registers memory = Lengths a registers memory
+Suits a Vr registers memory = Lengths a registers memory
+Suits a Mm registers memory = Lengths a registers memory
 
 -- Writing.
 

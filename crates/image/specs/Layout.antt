@@ -1,9 +1,9 @@
 -- The layout of a saved image: a table of record kinds, and what follows from it (document 01, "Saved image").
 use Prim.Native.Nat.{ℕ, _+_, _*_, _/_, _%_, _<_}
-use mathlib.Core.Bool.{Bool, true, _&&_}
+use mathlib.Core.Bool.{Bool, true, _&&_, cond}
 use mathlib.Core.List.{List, [], _∷_, _++_}
 use lib.Dec.{eqb}
-use lib.ListN.{getD, take, drop}
+use lib.ListN.{length, getD, take, drop}
 use Rattle.image.specs.Join.{joined, total, allBelow}
 use Rattle.image.specs.Types.{Kind, Hd, Th, Sr, Vr, Mm, Places, Nothing, ByThread, ByRegister, ByBlock, Shape, Row}
 
@@ -25,23 +25,31 @@ rowOf s Sr = row 83 82 ByThread 8 256
 rowOf s Vr = row 86 82 ByRegister 512 64
 rowOf s Mm = row 77 77 ByBlock (s .blocks) 64
 
--- "in this order": the kinds, how many there are, and the position of each
-abbrev pub kindAt : ℕ → Kind
-kindAt q = getD (Hd ∷ Th ∷ Sr ∷ Vr ∷ Mm ∷ []) q Hd
+-- "in this order": the kinds; how many there are, and which stands at a position
+abbrev pub order : List Kind
+order = Hd ∷ Th ∷ Sr ∷ Vr ∷ Mm ∷ []
 
 abbrev pub kinds : ℕ
-kinds = 5
+kinds = length order
+
+abbrev pub kindAt : ℕ → Kind
+kindAt q = getD order q Hd
 
 -- the first of them, HD and TH, hold the machine record
 abbrev pub recordKinds : ℕ
 recordKinds = 2
 
-abbrev pub orderOf : Kind → ℕ
-orderOf Hd = 0
-orderOf Th = 1
-orderOf Sr = 2
-orderOf Vr = 3
-orderOf Mm = 4
+-- kinds are told apart by their marks, whatever the shape
+abbrev pub sameMark : Row → Row → Bool
+sameMark r q = eqb (r .first) (q .first) && eqb (r .second) (q .second)
+
+-- the position of a kind: that of the first with its mark
+unfoldable pub positionIn : List Kind → Kind → ℕ
+positionIn [] k = 0
+positionIn (x ∷ xs) k = cond (sameMark (rowOf (ofBlocks 0) x) (rowOf (ofBlocks 0) k)) 0 (1 + positionIn xs k)
+
+unfoldable pub orderOf : Kind → ℕ
+orderOf k = positionIn order k
 
 -- "Numbers rise from 0, by thread first." "words and block numbers are little endian"
 abbrev pub placesOf : Places → ℕ → List ℕ

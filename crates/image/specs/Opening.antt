@@ -14,9 +14,12 @@ use Rattle.image.specs.Types.{Shape, Machine, Judgement}
 abbrev pub noBlocks : Shape
 noBlocks = ofBlocks 0
 
--- the bytes of a machine record
+-- the bytes of a machine record, and how many they are
 unfoldable pub recordBytes : Machine → List ℕ
 recordBytes m = laidUpTo recordKinds noBlocks (bodyOf (state m [] []))
+
+abbrev pub recordLength : ℕ
+recordLength = 60
 
 -- what is checked of such bytes: as of the image that opens with them
 abbrev pub openingChecks : List ℕ → List Check

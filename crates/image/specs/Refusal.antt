@@ -5,7 +5,7 @@ use mathlib.Core.List.{List, [], _∷_, _++_}
 use mathlib.Core.Option.{Option}
 use lib.ListN.{length}
 use Rattle.answer.specs.Answer.{bad-record, bad-image}
-use Rattle.answer.specs.Refusal.{Check, check, firstThatApplies, sizeChecks}
+use Rattle.answer.specs.Refusal.{fixedPart, Check, check, firstThatApplies, sizeChecks}
 use Rattle.machine.specs.WellFormed.{wellFormed}
 use Rattle.image.specs.Image.{recordIn}
 use Rattle.image.specs.Layout.{ofBlocks, headsIn}
@@ -13,7 +13,7 @@ use Rattle.image.specs.Types.{Shape, Machine}
 
 -- "The writer's buffer has exactly the image's length (else 9).": with a record
 unfoldable pub writeNumber : ℕ → ℕ → ℕ → Machine → Option ℕ
-writeNumber room bytes size m = firstThatApplies (sizeChecks room bytes size ++ check bad-record (not (wellFormed m)) ∷ [])
+writeNumber room bytes size m = firstThatApplies (sizeChecks fixedPart room bytes size ++ check bad-record (not (wellFormed m)) ∷ [])
 
 -- what is checked of content: 10 over the whole of it before any 4
 abbrev pub contentChecks : Bool → Bool → List Check
@@ -31,4 +31,4 @@ recordsNumber s l = firstThatApplies (recordChecks s l)
 
 -- of an image, read into a register room of so many words and a memory of so many bytes
 unfoldable pub readNumber : List ℕ → ℕ → ℕ → Option ℕ
-readNumber l room bytes = firstThatApplies (sizeChecks room bytes (length l) ++ recordChecks (ofBlocks (bytes / 64)) l)
+readNumber l room bytes = firstThatApplies (sizeChecks fixedPart room bytes (length l) ++ recordChecks (ofBlocks (bytes / 64)) l)

@@ -6,7 +6,7 @@ use mathlib.Core.List.{List, [], _∷_, _++_}
 use mathlib.Core.Option.{Option, none, some}
 use mathlib.Core.Path.{_≡_}
 use lib.ListN.{replicate, set, take}
-use Rattle.machine.specs.Machine.{zeroed, start}
+use Rattle.machine.specs.Machine.{zeroThread, withStatus, zeroed, start}
 use Rattle.image.specs.Bytes.{bytesOf}
 use Rattle.image.specs.Layout.{ofBlocks, headOf, rowOf}
 use Rattle.image.specs.Opening.{recordBytes, openingNumber}
@@ -18,7 +18,7 @@ abbrev pub mark : String → List ℕ
 mark s = code (charAt s 0) ∷ code (charAt s 1) ∷ []
 
 abbrev entry : Status → Thread
-entry status = record { status = status }
+entry status = withStatus zeroThread status
 
 -- a record that has an entry of each status
 abbrev pub sample : Machine

@@ -47,9 +47,7 @@ fn entry_or_zero(entry: EntryReading) -> Thread
 {
     match entry {
         EntryReading::Entry(thread) => thread,
-        EntryReading::Refused => Thread {
-            status: Status::Idle,
-        },
+        EntryReading::Refused => Thread::of_status(Status::Idle),
     }
 }
 
@@ -71,13 +69,12 @@ fn entries_in(shape: Shape, image: &[u8]) -> Entries
     requires { ⌜ (shape .blocks ≤ 1024) × (startOf shape recordKinds ≤ length (now image)) ⌝ }
     ensures { λ r. ⌜ (r .read ≡ allBelow 8 (λ t. isEntry (entryIn shape (now (image .entry)) t))) × (r .threads ≡ threadsIn shape (now (image .entry))) ⌝ }
 {
+    let zero = Thread::of_status(Status::Idle);
     let row = row_of(shape, Kind::Th);
     let size = record_size(row);
     let mut at = first_body(shape, Kind::Th);
     let mut read = true;
-    let mut threads = [Thread {
-        status: Status::Idle,
-    }; 8];
+    let mut threads = [zero; 8];
     for t in 0..8usize {
         let entry = entry_at(image, at);
         read = read & is_entry(entry);

@@ -57,7 +57,7 @@ pub fn fields_of(thread: Thread) -> Fields
 fn accept(status: Status, fields: Fields) -> EntryReading
     ensures { λ r. ⌜ entryAnswered r ≡ accepted fields (some status) ⌝ }
 {
-    let thread = Thread { status };
+    let thread = Thread::of_status(status);
     if same_fields(fields_of(thread), fields) {
         return EntryReading::Entry(thread);
     }

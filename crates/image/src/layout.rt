@@ -34,13 +34,13 @@ pub struct Row {
     pub size: usize,
 }
 
+const ORDER: [Kind; 5] = [Kind::Hd, Kind::Th, Kind::Sr, Kind::Vr, Kind::Mm];
+
 // How many kinds there are.
-pub const KINDS: usize = 5;
+pub const KINDS: usize = ORDER.len();
 
 // The first of them, which hold the machine record.
 pub const RECORD_KINDS: usize = 2;
-
-const ORDER: [Kind; KINDS] = [Kind::Hd, Kind::Th, Kind::Sr, Kind::Vr, Kind::Mm];
 
 // The kind at a position.
 pub fn kind_at(position: usize) -> Kind

@@ -10,6 +10,7 @@ mod reading;
 mod verdicts;
 mod writing;
 
+pub use opening::RECORD_LENGTH;
 pub use opening::read_record;
 pub use opening::write_record;
 pub use outcome::Read;

@@ -1,7 +1,7 @@
 // The machine record alone, as the bytes that an image opens with: written and read.
 ghost use mathlib.Core.Path.{_≡_};
 ghost use lib.ListN.{length};
-ghost use Rattle.image.specs.Opening.{recordBytes, judged, readOpening};
+ghost use Rattle.image.specs.Opening.{recordBytes, recordLength, judged, readOpening};
 use crate::entries::record_in;
 use crate::heads::kinds_stand;
 use crate::layout::Kind;
@@ -12,19 +12,23 @@ use crate::verdicts::judge_content;
 use crate::writing::put_section;
 use machine::Machine;
 
+// How many bytes a machine record has.
+pub const RECORD_LENGTH: usize = 60;
+
 // HD and TH stored. They hold no word of the register room and no byte of memory.
 fn put_opening(machine: Machine, buffer: &mut [u8])
-    requires { ⌜ length (now buffer) ≡ 60 ⌝ }
+    requires { ⌜ length (now buffer) ≡ recordLength ⌝ }
     ensures { λ _. ⌜ now (buffer .exit) ≡ recordBytes machine ⌝ }
 {
     let registers: [u32; 0] = [];
     let memory: [u8; 0] = [];
-    let next = put_section(Kind::Hd, &registers, &memory, machine, buffer, 0);
-    put_section(Kind::Th, &registers, &memory, machine, buffer, next);
+    let shape = Shape { blocks: 0 };
+    let next = put_section(shape, Kind::Hd, &registers, &memory, machine, buffer, 0);
+    put_section(shape, Kind::Th, &registers, &memory, machine, buffer, next);
 }
 
 // A machine record is written, whether or not it is well formed.
-pub fn write_record(machine: Machine, buffer: &mut [u8; 60])
+pub fn write_record(machine: Machine, buffer: &mut [u8; RECORD_LENGTH])
     ensures { λ _. ⌜ now (buffer .exit) ≡ recordBytes machine ⌝ }
 {
     put_opening(machine, buffer);
@@ -32,7 +36,7 @@ pub fn write_record(machine: Machine, buffer: &mut [u8; 60])
 
 // The verdict on the bytes of a machine record.
 fn judge_opening(bytes: &[u8]) -> Judgement
-    requires { ⌜ length (now bytes) ≡ 60 ⌝ }
+    requires { ⌜ length (now bytes) ≡ recordLength ⌝ }
     ensures { λ r. ⌜ judged r ≡ readOpening (now (bytes .entry)) ⌝ }
 {
     let shape = Shape { blocks: 0 };
@@ -43,7 +47,7 @@ fn judge_opening(bytes: &[u8]) -> Judgement
 }
 
 // A machine record is read: what is accepted is well formed.
-pub fn read_record(bytes: &[u8; 60]) -> Judgement
+pub fn read_record(bytes: &[u8; RECORD_LENGTH]) -> Judgement
     ensures { λ r. ⌜ judged r ≡ readOpening (now (bytes .entry)) ⌝ }
 {
     judge_opening(bytes)

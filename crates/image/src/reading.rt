@@ -66,7 +66,10 @@ fn take_memory(shape: Shape, image: &[u8], memory: &mut [u8])
 pub fn read(image: &[u8], registers: &mut [u32], memory: &mut [u8]) -> Read
     ensures { λ r. ⌜ restored r (now (registers .exit)) (now (memory .exit)) ≡ read (now (image .entry)) (now (registers .entry)) (now (memory .entry)) ⌝ }
 {
-    let judgement = judge(image, registers.len(), memory.len());
+    let shape = Shape {
+        blocks: memory.len() / 64,
+    };
+    let judgement = judge(shape, image, registers.len(), memory.len());
     let verdict = judgement.verdict;
     let machine = judgement.machine;
     match verdict {
@@ -75,9 +78,6 @@ pub fn read(image: &[u8], registers: &mut [u32], memory: &mut [u8]) -> Read
             machine,
         },
         Verdict::Accepted => {
-            let shape = Shape {
-                blocks: memory.len() / 64,
-            };
             take_registers(shape, image, registers);
             take_memory(shape, image, memory);
             Read {

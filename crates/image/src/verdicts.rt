@@ -13,6 +13,7 @@ use crate::entries::record_in;
 use crate::heads::kinds_stand;
 use crate::layout::KINDS;
 use crate::layout::Shape;
+use answer::FIXED_PART;
 use answer::Verdict;
 use answer::sizes_verdict;
 use machine::Machine;
@@ -59,13 +60,14 @@ fn judge_records(shape: Shape, image: &[u8]) -> Judgement
     judge_content(kinds_stand(shape, KINDS, image), record_in(shape, image))
 }
 
-// The verdict on an image that is read into a register room of so many words and a memory of so many bytes.
-pub fn judge(image: &[u8], room: usize, bytes: usize) -> Judgement
+// The verdict on an image that is read into a register room of so many words and a memory of so many bytes, which says its shape.
+pub fn judge(shape: Shape, image: &[u8], room: usize, bytes: usize) -> Judgement
+    requires { ⌜ shape ≡ ofBlocks (bytes / 64) ⌝ }
     ensures { λ r. ⌜ (numbered (r .verdict) ≡ readNumber (now (image .entry)) room bytes) × (r .machine ≡ refusedOr (readNumber (now (image .entry)) room bytes) (λ n. zeroed) (machineIn (ofBlocks (bytes / 64)) (now (image .entry)))) ⌝ }
 {
-    let sizes = sizes_verdict(room, bytes, image.len());
+    let sizes = sizes_verdict(FIXED_PART, room, bytes, image.len());
     match sizes {
         Verdict::Refused(number) => refuse(number),
-        Verdict::Accepted => judge_records(Shape { blocks: bytes / 64 }, image),
+        Verdict::Accepted => judge_records(shape, image),
     }
 }

@@ -4,9 +4,9 @@ ghost use mathlib.Core.Path.{_≡_};
 ghost use lib.ListN.{length};
 ghost use Rattle.machine.specs.State.{state};
 ghost use Rattle.image.specs.Calls.{written, write};
-ghost use Rattle.image.specs.Image.{shapeOf, Lengths, Suits, fieldBytes, bodyOf, image};
+ghost use Rattle.image.specs.Image.{Lengths, Suits, fieldBytes, bodyOf};
 ghost use Rattle.image.specs.Join.{Grown};
-ghost use Rattle.image.specs.Layout.{rowOf, kinds, recordSize, extentOf, recordOf, sectionOf, startOf};
+ghost use Rattle.image.specs.Layout.{rowOf, kinds, recordSize, extentOf, recordOf, sectionOf, laidOut, startOf};
 use crate::bytes::copy_eights;
 use crate::bytes::put_words;
 use crate::fields::Fields;
@@ -18,6 +18,7 @@ use crate::layout::Shape;
 use crate::layout::kind_at;
 use crate::layout::row_of;
 use crate::outcome::WriteAnswer;
+use answer::FIXED_PART;
 use answer::Verdict;
 use answer::sizes_verdict;
 use machine::Machine;
@@ -35,6 +36,7 @@ fn put_fields(fields: Fields, buffer: &mut [u8], at: usize)
 
 // What stands behind the place numbers of record i, stored from a place on; the next place.
 fn put_body(
+    shape: Shape,
     kind: Kind,
     registers: &[u32],
     memory: &[u8],
@@ -43,7 +45,7 @@ fn put_body(
     buffer: &mut [u8],
     at: usize,
 ) -> usize
-    requires { ⌜ Suits kind (now registers) (now memory) × (i < rowOf (shapeOf (now memory)) kind .count) × (at + rowOf (shapeOf (now memory)) kind .size ≤ length (now buffer)) ⌝ }
+    requires { ⌜ Suits shape kind (now registers) (now memory) × (i < rowOf shape kind .count) × (at + rowOf shape kind .size ≤ length (now buffer)) ⌝ }
     ensures { λ r. ⌜ Grown (now (buffer .entry)) (now (buffer .exit)) at r (bodyOf (state machine (now (registers .entry)) (now (memory .entry))) kind i) ⌝ }
 {
     match kind {
@@ -74,6 +76,7 @@ fn put_body(
 
 // Record i of a kind stored from a place on; the next place.
 fn put_record(
+    shape: Shape,
     kind: Kind,
     registers: &[u32],
     memory: &[u8],
@@ -82,19 +85,17 @@ fn put_record(
     buffer: &mut [u8],
     at: usize,
 ) -> usize
-    requires { ⌜ Suits kind (now registers) (now memory) × (i < rowOf (shapeOf (now memory)) kind .count) × (at + recordSize (rowOf (shapeOf (now memory)) kind) ≤ length (now buffer)) ⌝ }
-    ensures { λ r. ⌜ Grown (now (buffer .entry)) (now (buffer .exit)) at r (recordOf (rowOf (shapeOf (now (memory .entry))) kind) (bodyOf (state machine (now (registers .entry)) (now (memory .entry))) kind) i) ⌝ }
+    requires { ⌜ Suits shape kind (now registers) (now memory) × (i < rowOf shape kind .count) × (at + recordSize (rowOf shape kind) ≤ length (now buffer)) ⌝ }
+    ensures { λ r. ⌜ Grown (now (buffer .entry)) (now (buffer .exit)) at r (recordOf (rowOf shape kind) (bodyOf (state machine (now (registers .entry)) (now (memory .entry))) kind) i) ⌝ }
 {
-    let shape = Shape {
-        blocks: memory.len() / 64,
-    };
     let row = row_of(shape, kind);
     let next = put_head(row, i, buffer, at);
-    put_body(kind, registers, memory, machine, i, buffer, next)
+    put_body(shape, kind, registers, memory, machine, i, buffer, next)
 }
 
 // Every record of a kind stored from a place on; the next place.
 pub fn put_section(
+    shape: Shape,
     kind: Kind,
     registers: &[u32],
     memory: &[u8],
@@ -102,29 +103,34 @@ pub fn put_section(
     buffer: &mut [u8],
     at: usize,
 ) -> usize
-    requires { ⌜ Suits kind (now registers) (now memory) × (at + extentOf (rowOf (shapeOf (now memory)) kind) ≤ length (now buffer)) ⌝ }
-    ensures { λ r. ⌜ Grown (now (buffer .entry)) (now (buffer .exit)) at r (sectionOf (rowOf (shapeOf (now (memory .entry))) kind) (bodyOf (state machine (now (registers .entry)) (now (memory .entry))) kind)) ⌝ }
+    requires { ⌜ Suits shape kind (now registers) (now memory) × (at + extentOf (rowOf shape kind) ≤ length (now buffer)) ⌝ }
+    ensures { λ r. ⌜ Grown (now (buffer .entry)) (now (buffer .exit)) at r (sectionOf (rowOf shape kind) (bodyOf (state machine (now (registers .entry)) (now (memory .entry))) kind)) ⌝ }
 {
-    let shape = Shape {
-        blocks: memory.len() / 64,
-    };
     let row = row_of(shape, kind);
     let count = row.count;
     let mut next = at;
     for i in 0..count {
-        next = put_record(kind, registers, memory, machine, i, buffer, next);
+        next = put_record(shape, kind, registers, memory, machine, i, buffer, next);
     }
     next
 }
 
 // Every kind's records.
-fn put_image(registers: &[u32], memory: &[u8], machine: Machine, buffer: &mut [u8])
-    requires { ⌜ Lengths (now registers) (now memory) × (startOf (shapeOf (now memory)) kinds ≡ length (now buffer)) ⌝ }
-    ensures { λ _. ⌜ now (buffer .exit) ≡ image (state machine (now (registers .entry)) (now (memory .entry))) ⌝ }
+fn put_image(shape: Shape, registers: &[u32], memory: &[u8], machine: Machine, buffer: &mut [u8])
+    requires { ⌜ Lengths shape (now registers) (now memory) × (startOf shape kinds ≡ length (now buffer)) ⌝ }
+    ensures { λ _. ⌜ now (buffer .exit) ≡ laidOut shape (bodyOf (state machine (now (registers .entry)) (now (memory .entry)))) ⌝ }
 {
     let mut next: usize = 0;
     for position in 0..KINDS {
-        next = put_section(kind_at(position), registers, memory, machine, buffer, next);
+        next = put_section(
+            shape,
+            kind_at(position),
+            registers,
+            memory,
+            machine,
+            buffer,
+            next,
+        );
     }
 }
 
@@ -132,7 +138,7 @@ fn put_image(registers: &[u32], memory: &[u8], machine: Machine, buffer: &mut [u
 pub fn write(registers: &[u32], memory: &[u8], machine: Machine, buffer: &mut [u8]) -> WriteAnswer
     ensures { λ r. ⌜ written r (now (buffer .exit)) ≡ write (state machine (now (registers .entry)) (now (memory .entry))) (now (buffer .entry)) ⌝ }
 {
-    let sizes = sizes_verdict(registers.len(), memory.len(), buffer.len());
+    let sizes = sizes_verdict(FIXED_PART, registers.len(), memory.len(), buffer.len());
     match sizes {
         Verdict::Refused(number) => WriteAnswer::Refused(number),
         Verdict::Accepted => {
@@ -140,7 +146,10 @@ pub fn write(registers: &[u32], memory: &[u8], machine: Machine, buffer: &mut [u
             if !well_formed {
                 return WriteAnswer::Refused(4);
             }
-            put_image(registers, memory, machine, buffer);
+            let shape = Shape {
+                blocks: memory.len() / 64,
+            };
+            put_image(shape, registers, memory, machine, buffer);
             WriteAnswer::Written
         }
     }

@@ -47,12 +47,11 @@ impl Machine {
     pub fn zero() -> Machine
         ensures { λ r. ⌜ r ≡ zeroed ⌝ }
     {
+        let entry = Thread::zero();
         Machine {
             enabled: 0,
             last: 0,
-            threads: [Thread {
-                status: Status::Idle,
-            }; 8],
+            threads: [entry; 8],
         }
     }
 

@@ -1,6 +1,6 @@
 // A thread's entry: its status, with what that status carries.
 ghost use mathlib.Core.Path.{_≡_};
-ghost use Rattle.machine.specs.Machine.{withStatus};
+ghost use Rattle.machine.specs.Machine.{zeroThread, withStatus};
 ghost use Rattle.machine.specs.Status.{limits, isIdle, isRunning, isWaiting, waitsAt, waitsOtherwise, carriesInRange};
 
 // Trapped carries a reason; Waiting carries a barrier id and a count.
@@ -110,6 +110,22 @@ pub fn carries_in_range(status: Status, limits: Limits) -> bool
 }
 
 impl Thread {
+    // The entry with every number 0.
+    pub(crate) fn zero() -> Thread
+        ensures { λ r. ⌜ r ≡ zeroThread ⌝ }
+    {
+        Thread {
+            status: Status::Idle,
+        }
+    }
+
+    // The entry that has a status, and no other number but 0.
+    pub fn of_status(status: Status) -> Thread
+        ensures { λ r. ⌜ r ≡ withStatus zeroThread status ⌝ }
+    {
+        Thread::zero().with_status(status)
+    }
+
     // The entry with another status; all else that it holds stays.
     pub(crate) fn with_status(self, status: Status) -> Thread
         ensures { λ r. ⌜ r ≡ withStatus self status ⌝ }

@@ -1,7 +1,7 @@
 -- `korvammel_image_write` meets its contract: by the verdict.
 use mathlib.Core.Path.{sym, ap, _∙_}
 use lib.ListN.{length}
-use Rattle.answer.specs.Refusal.{numbered, sizeChecks, sizesNumber}
+use Rattle.answer.specs.Refusal.{fixedPart, numbered, sizeChecks, sizesNumber}
 use Rattle.machine.specs.State.{state}
 use Rattle.image.proofs.Openings.{opening-well-formed}
 use Rattle.image.proofs.Refusals.{write-taken}
@@ -20,7 +20,7 @@ returns : tie.Need-returns
 unfolding writeCall writeNumber sizesNumber
 returns c =
     let a = c .before .before .before .before .before .before .before .before .before .before .before .args in
-    let k = sizeChecks (length (a .registers .now)) (length (a .memory .now)) (length (a .buffer .now)) in
+    let k = sizeChecks fixedPart (length (a .registers .now)) (length (a .memory .now)) (length (a .buffer .now)) in
     let o = in-order k (a .bytes .now) _ (c .before .before .before .before .before .before .read-record .result) (c .before .before .before .before .before .before .before .sizes-verdict .ensures) (c .before .before .before .before .before .before .read-record .ensures) in
     let e = c .before .before .before .before .first-refusal .ensures ∙ o in
     rw (← e, c .before .before .verdict .given .1) (ap (λ n. left n (a .buffer .now)) (c .wide .ensures))
@@ -29,7 +29,7 @@ returns-2 : tie.Need-returns-2
 unfolding writeCall writeNumber sizesNumber
 returns-2 c =
     let a = c .before .before .before .before .before .before .before .before .before .before .before .before .before .args in
-    let k = sizeChecks (length (a .registers .now)) (length (a .memory .now)) (length (a .buffer .now)) in
+    let k = sizeChecks fixedPart (length (a .registers .now)) (length (a .memory .now)) (length (a .buffer .now)) in
     let r = c .before .before .before .before .before .before .before .before .read-record .result in
     let z = c .before .before .before .before .before .before .before .before .before .sizes-verdict .ensures in
     let b = c .before .before .before .before .before .before .before .before .read-record .ensures in

@@ -11,6 +11,7 @@ use Rattle.image.specs.Layout.{recordKinds, recordSize}
 use Rattle.image.specs.Types.{Th}
 use Rattle.image.proofs.Join.{grown-start, grown-join, grown-one, grown-new, grown-end}
 use Rattle.image.proofs.RecordIn.{fixed-place, body-room-in, entryAt, entries-read, threads-read}
+use Rattle.image.proofs.Rows.{th-order}
 use Rattle.image.proofs.Tests.{all-none, all-next}
 use native.Mathlib.Omega.{arith}
 use borrow.Author.Needs.{needs}
@@ -25,21 +26,21 @@ abbrev μ-loop : tie.MeasureT-loop
 
 entry-at-requires : tie.Need-entry-at-requires Inv-loop μ-loop
 entry-at-requires c κs =
-    let a = c .before .before .before .before .before .before .args in
+    let a = c .before .before .before .before .before .before .before .args in
     let place = fixed-place (a .shape) Th (c .before .before .first-body .result) (c .before .before .before .record-size .result) (c .before .before .first-body .ensures) (c .before .before .before .record-size .ensures ∙ ap recordSize (c .before .before .before .before .row-of .ensures)) in
     let l = c .before .loop in
-    omega (arith, l .inv .1, place (l .t), body-room-in (a .shape) Th recordKinds (l .t) _ (omega arith) (c .loop-test .taken) (c .before .before .before .before .before .before .pre .1))
+    omega (arith, l .inv .1, place (l .t), body-room-in (a .shape) Th recordKinds (l .t) _ (omega (arith, th-order)) (c .loop-test .taken) (c .before .before .before .before .before .before .before .pre .1))
 
 add-at : tie.Need-add-at Inv-loop μ-loop
 add-at c =
-    let a = c .before .before .before .before .before .before .before .before .before .args in
+    let a = c .before .before .before .before .before .before .before .before .before .before .args in
     let place = fixed-place (a .shape) Th (c .before .before .before .before .before .first-body .result) (c .before .before .before .before .before .before .record-size .result) (c .before .before .before .before .before .first-body .ensures) (c .before .before .before .before .before .before .record-size .ensures ∙ ap recordSize (c .before .before .before .before .before .before .before .row-of .ensures)) in
     let l = c .before .before .before .before .loop in
-    omega (arith, l .inv .1, place (l .t), c .before .before .before .before .before .before .record-size .ensures ∙ ap recordSize (c .before .before .before .before .before .before .before .row-of .ensures), body-room-in (a .shape) Th recordKinds (l .t) _ (omega arith) (c .before .before .before .loop-test .taken) (c .before .before .before .before .before .before .before .before .before .pre .1))
+    omega (arith, l .inv .1, place (l .t), c .before .before .before .before .before .before .record-size .ensures ∙ ap recordSize (c .before .before .before .before .before .before .before .row-of .ensures), body-room-in (a .shape) Th recordKinds (l .t) _ (omega (arith, th-order)) (c .before .before .before .loop-test .taken) (c .before .before .before .before .before .before .before .before .before .before .pre .1))
 
 loop-again : tie.Need-loop-again Inv-loop μ-loop
 loop-again c =
-    let image = c .before .before .before .before .before .before .before .before .before .args .image .now in
+    let image = c .before .before .before .before .before .before .before .before .before .before .args .image .now in
     let l = c .before .before .before .before .loop in
     let at = c .before .before .before .before .before .first-body .result in
     let size = c .before .before .before .before .before .before .record-size .result in
@@ -55,7 +56,7 @@ loop-again c =
 
 returns : tie.Need-returns Inv-loop μ-loop
 returns c =
-    let a = c .before .before .before .before .before .before .args in
+    let a = c .before .before .before .before .before .before .before .args in
     let place = fixed-place (a .shape) Th (c .before .before .first-body .result) (c .before .before .before .record-size .result) (c .before .before .first-body .ensures) (c .before .before .before .record-size .ensures ∙ ap recordSize (c .before .before .before .before .row-of .ensures)) in
     let l = c .before .loop in
     let image = a .image .now in
@@ -73,8 +74,9 @@ entries-in-spec =
     Inv-loop
     μ-loop
     (λ c κs. search needs)
+    (λ c κs. search needs)
     (λ c κs. rw (c .row-of .ensures) (omega arith))
-    (λ c κs. c .before .before .before .pre .0)
+    (λ c κs. c .before .before .before .before .pre .0)
     (λ c. (omega arith, omega arith, sym (all-none _), grown-start _ 0 _))
     entry-at-requires
     (λ c κs. search needs)

@@ -9,5 +9,6 @@ entry-or-zero-spec =
     (tie.spec
     (λ c. search needs)
     (λ c. search needs)
+    (λ c κs. search needs)
     (λ c. search needs)
-    (λ c. rw (c .enum-told .given .1)))
+    (λ c. rw (c .before .enum-told .given .1) (c .of-status .ensures)))

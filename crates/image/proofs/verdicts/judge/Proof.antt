@@ -18,7 +18,7 @@ judge-records-requires : tie.Need-judge-records-requires
 judge-records-requires c κs =
     let a = c .before .before .before .before .args in
     let k = sized (a .room) (a .bytes) (length (a .image .now)) (sym (c .before .before .sizes-verdict .ensures) ∙ ap numbered (c .enum-told .given .1)) in
-    (memory-blocks (a .bytes) (k .memory), le-of-eq (long (a .room) (a .bytes) (length (a .image .now)) k))
+    rw (c .before .before .before .before .pre) (memory-blocks (a .bytes) (k .memory), le-of-eq (long (a .room) (a .bytes) (length (a .image .now)) k))
 
 returns : tie.Need-returns
 returns c =
@@ -33,7 +33,8 @@ returns-2 c =
     let a = c .before .before .before .before .before .args in
     let s = sym (c .before .before .before .sizes-verdict .ensures) ∙ ap numbered (c .before .enum-told .given .1) in
     let e = read-number (a .image .now) (a .room) (a .bytes) ∙ ap (λ o. refusedOr o some (recordsNumber (ofBlocks (a .bytes / 64)) (a .image .now))) s in
-    (c .judge-records .ensures .0 ∙ sym e, c .judge-records .ensures .1 ∙ sym (ap (λ o. refusedOr o (λ n. zeroed) (machineIn (ofBlocks (a .bytes / 64)) (a .image .now))) e))
+    let p = c .before .before .before .before .before .pre in
+    (c .judge-records .ensures .0 ∙ ap (λ s. recordsNumber s (a .image .now)) p ∙ sym e, c .judge-records .ensures .1 ∙ (λ i. refusedOr (recordsNumber (p i) (a .image .now)) (λ n. zeroed) (machineIn (p i) (a .image .now))) ∙ sym (ap (λ o. refusedOr o (λ n. zeroed) (machineIn (ofBlocks (a .bytes / 64)) (a .image .now))) e))
 
 pub judge-spec : {M : Type 1} → statement M
 judge-spec =

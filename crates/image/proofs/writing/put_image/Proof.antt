@@ -2,7 +2,7 @@
 use Prim.Native.Nat.{_-_, _≤_}
 use mathlib.Core.Path.{ap, _∙_}
 use Rattle.machine.specs.State.{State, state}
-use Rattle.image.specs.Image.{shapeOf, bodyOf, image}
+use Rattle.image.specs.Image.{bodyOf}
 use Rattle.image.specs.Join.{joined, Grown}
 use Rattle.image.specs.Layout.{kinds, kindAt, rowOf, sectionOf, laidOut}
 use Rattle.image.proofs.Join.{grown-start, grown-join, grown-end, grown-new, grown-whole}
@@ -13,38 +13,38 @@ use Rattle.image.proofs.writing.put_image.Statement.{statement}
 use Rattle.image.proofs.writing.put_image.Tie as tie
 
 abbrev Inv-loop : tie.InvT-loop
-Inv-loop registers memory machine buffer₀ next₀ position₀ buffer next position = (position ≤ kinds) × Grown buffer₀ buffer 0 next (joined position (sectionAt (shapeOf memory) (bodyOf (state machine registers memory))))
+Inv-loop shape registers memory machine buffer₀ next₀ position₀ buffer next position = (position ≤ kinds) × Grown buffer₀ buffer 0 next (joined position (sectionAt shape (bodyOf (state machine registers memory))))
 
 abbrev μ-loop : tie.MeasureT-loop
-μ-loop registers memory machine buffer₀ next₀ position₀ buffer next position = kinds - position
+μ-loop shape registers memory machine buffer₀ next₀ position₀ buffer next position = kinds - position
 
 put-section-requires : tie.Need-put-section-requires Inv-loop μ-loop
 put-section-requires c κs =
     let a = c .before .before .before .before .before .before .before .args in
     let s : State = state (a .machine) (a .registers .now) (a .memory .now) in
-    let w = shapeOf (a .memory .now) in
+    let w = a .shape in
     let l = c .before .before .before .loop in
     let g = l .inv .1 in
-    rw (c .before .kind-at .ensures) (suits (a .registers .now) (a .memory .now) (c .before .before .before .before .before .before .before .pre .0) (kindAt (l .position)), omega (arith, g .next, g .size, sections-length w (bodyOf s) (body-length s (c .before .before .before .before .before .before .before .pre .0)) (l .position), start-room w (l .position) kinds (c .before .before .loop-test .taken), c .before .before .before .before .before .before .before .pre .1))
+    rw (c .before .kind-at .ensures) (suits w (a .registers .now) (a .memory .now) (c .before .before .before .before .before .before .before .pre .0) (kindAt (l .position)), omega (arith, g .next, g .size, sections-length w (bodyOf s) (body-length w s (c .before .before .before .before .before .before .before .pre .0)) (l .position), start-room w (l .position) kinds (c .before .before .loop-test .taken), c .before .before .before .before .before .before .before .pre .1))
 
 loop-again : tie.Need-loop-again Inv-loop μ-loop
 loop-again c =
     let a = c .before .before .before .before .before .before .before .before .before .before .args in
     let s : State = state (a .machine) (a .registers .now) (a .memory .now) in
-    let w = shapeOf (a .memory .now) in
+    let w = a .shape in
     let l = c .before .before .before .before .before .before .loop in
     let e = ap (λ k. sectionOf (rowOf w k) (bodyOf s k)) (c .before .before .before .before .kind-at .ensures) in
     (omega (arith, c .before .before .before .before .before .loop-test .taken), grown-join (l .position) (sectionAt w (bodyOf s)) (l .inv .1) (grown-new e (c .before .before .put-section .ensures)))
 
 returns : tie.Need-returns Inv-loop μ-loop
-unfolding image laidOut
+unfolding laidOut
 returns c =
     let a = c .before .before .before .before .before .args in
     let s : State = state (a .machine) (a .registers .now) (a .memory .now) in
-    let w = shapeOf (a .memory .now) in
+    let w = a .shape in
     let l = c .before .loop in
     let g = grown-end (l .position) kinds (sectionAt w (bodyOf s)) (l .inv .1) (l .inv .0) (omega (arith, c .loop-test .left)) in
-    grown-whole g (sections-length w (bodyOf s) (body-length s (c .before .before .before .before .before .pre .0)) kinds ∙ c .before .before .before .before .before .pre .1)
+    grown-whole g (sections-length w (bodyOf s) (body-length w s (c .before .before .before .before .before .pre .0)) kinds ∙ c .before .before .before .before .before .pre .1)
 
 pub put-image-spec : {M : Type 1} → statement M
 put-image-spec =

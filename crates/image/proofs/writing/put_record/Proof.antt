@@ -1,6 +1,5 @@
 -- `writing::put_record` meets its contract.
 use mathlib.Core.Path.{ap}
-use Rattle.image.specs.Image.{shapeOf}
 use Rattle.image.specs.Layout.{rowOf, headOf, recordOf}
 use Rattle.image.proofs.Join.{grown-more, grown-new}
 use Rattle.image.proofs.Rows.{head-length, numbered}
@@ -12,12 +11,12 @@ use Rattle.image.proofs.writing.put_record.Tie as tie
 put-head-requires : tie.Need-put-head-requires
 put-head-requires c κs =
     let a = c .before .before .before .before .before .args in
-    rw (c .before .row-of .ensures) (numbered (a .registers .now) (a .memory .now) (a .kind) (a .i) (c .before .before .before .before .before .pre .0) (c .before .before .before .before .before .pre .1), omega (arith, c .before .before .before .before .before .pre .2))
+    rw (c .before .row-of .ensures) (numbered (a .shape) (a .registers .now) (a .memory .now) (a .kind) (a .i) (c .before .before .before .before .before .pre .0) (c .before .before .before .before .before .pre .1), omega (arith, c .before .before .before .before .before .pre .2))
 
 put-body-requires : tie.Need-put-body-requires
 put-body-requires c κs =
     let a = c .before .before .before .before .before .before .before .before .before .args in
-    let r = rowOf (shapeOf (a .memory .now)) (a .kind) in
+    let r = rowOf (a .shape) (a .kind) in
     let g = grown-new (ap (λ r. headOf r (a .i)) (c .before .before .before .before .before .row-of .ensures)) (c .before .before .before .put-head .ensures) in
     (c .before .before .before .before .before .before .before .before .before .pre .0, c .before .before .before .before .before .before .before .before .before .pre .1, omega (arith, g .next, g .size, head-length r (a .i), c .before .before .before .before .before .before .before .before .before .pre .2))
 

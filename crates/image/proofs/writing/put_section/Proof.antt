@@ -2,7 +2,7 @@
 use Prim.Native.Nat.{_-_, _≤_, _<_}
 use mathlib.Core.Path.{_≡_, ap}
 use Rattle.machine.specs.State.{State, state}
-use Rattle.image.specs.Image.{shapeOf, bodyOf}
+use Rattle.image.specs.Image.{bodyOf}
 use Rattle.image.specs.Join.{joined, Grown}
 use Rattle.image.specs.Layout.{rowOf, recordSize, recordOf, sectionOf}
 use Rattle.image.proofs.Join.{grown-start, grown-join, grown-end, room-for}
@@ -13,10 +13,10 @@ use Rattle.image.proofs.writing.put_section.Statement.{statement}
 use Rattle.image.proofs.writing.put_section.Tie as tie
 
 abbrev Inv-loop : tie.InvT-loop
-Inv-loop kind registers memory machine buffer₀ at count next₀ i₀ buffer next i = (i ≤ count) × Grown buffer₀ buffer at next (joined i (recordOf (rowOf (shapeOf memory) kind) (bodyOf (state machine registers memory) kind)))
+Inv-loop shape kind registers memory machine buffer₀ at count next₀ i₀ buffer next i = (i ≤ count) × Grown buffer₀ buffer at next (joined i (recordOf (rowOf shape kind) (bodyOf (state machine registers memory) kind)))
 
 abbrev μ-loop : tie.MeasureT-loop
-μ-loop kind registers memory machine buffer₀ at count next₀ i₀ buffer next i = count - i
+μ-loop shape kind registers memory machine buffer₀ at count next₀ i₀ buffer next i = count - i
 
 loop-holds : tie.Need-loop-holds Inv-loop μ-loop
 loop-holds c = (omega arith, grown-start (c .before .before .before .before .args .buffer .now) (c .before .before .before .before .args .at) _)
@@ -25,17 +25,17 @@ put-record-requires : tie.Need-put-record-requires Inv-loop μ-loop
 put-record-requires c κs =
     let a = c .before .before .before .before .before .before .before .args in
     let s : State = state (a .machine) (a .registers .now) (a .memory .now) in
-    let r = rowOf (shapeOf (a .memory .now)) (a .kind) in
+    let r = rowOf (a .shape) (a .kind) in
     let e : c .before .before .before .row-of .result .count ≡ r .count = ap (λ x. x .count) (c .before .before .before .row-of .ensures) in
     let l = c .before .before .loop in
     let t : l .i < r .count = omega (arith, c .before .loop-test .taken) in
-    (c .before .before .before .before .before .before .before .pre .0, t, room-for (recordSize r) (l .i) (r .count) (recordOf r (bodyOf s (a .kind))) (l .inv .1) (record-length r (bodyOf s (a .kind)) (body-length-of s (a .kind) (c .before .before .before .before .before .before .before .pre .0))) t (c .before .before .before .before .before .before .before .pre .1))
+    (c .before .before .before .before .before .before .before .pre .0, t, room-for (recordSize r) (l .i) (r .count) (recordOf r (bodyOf s (a .kind))) (l .inv .1) (record-length r (bodyOf s (a .kind)) (body-length-of (a .shape) s (a .kind) (c .before .before .before .before .before .before .before .pre .0))) t (c .before .before .before .before .before .before .before .pre .1))
 
 loop-again : tie.Need-loop-again Inv-loop μ-loop
 loop-again c =
     let a = c .before .before .before .before .before .before .before .before .before .before .args in
     let s : State = state (a .machine) (a .registers .now) (a .memory .now) in
-    let r = rowOf (shapeOf (a .memory .now)) (a .kind) in
+    let r = rowOf (a .shape) (a .kind) in
     let e : c .before .before .before .before .before .before .row-of .result .count ≡ r .count = ap (λ x. x .count) (c .before .before .before .before .before .before .row-of .ensures) in
     let l = c .before .before .before .before .before .loop in
     (omega (arith, c .before .before .before .before .loop-test .taken), grown-join (l .i) (recordOf r (bodyOf s (a .kind))) (l .inv .1) (c .before .before .put-record .ensures))
@@ -45,7 +45,7 @@ unfolding sectionOf
 returns c =
     let a = c .before .before .before .before .before .before .args in
     let s : State = state (a .machine) (a .registers .now) (a .memory .now) in
-    let r = rowOf (shapeOf (a .memory .now)) (a .kind) in
+    let r = rowOf (a .shape) (a .kind) in
     let e : c .before .before .row-of .result .count ≡ r .count = ap (λ x. x .count) (c .before .before .row-of .ensures) in
     let l = c .before .loop in
     grown-end (l .i) (r .count) (recordOf r (bodyOf s (a .kind))) (l .inv .1) (omega (arith, l .inv .0)) (omega (arith, c .loop-test .left))

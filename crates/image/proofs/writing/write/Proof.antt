@@ -6,6 +6,7 @@ use Rattle.answer.specs.Answer.{given}
 use Rattle.answer.specs.Refusal.{numbered}
 use Rattle.machine.specs.State.{State, state}
 use Rattle.image.specs.Calls.{writing}
+use Rattle.image.specs.Image.{image}
 use Rattle.image.proofs.Refusals.{sized, long, lengths, write-sizes, write-record, write-taken}
 use borrow.Author.Needs.{needs}
 use Rattle.image.proofs.writing.write.Statement.{statement}
@@ -33,6 +34,7 @@ returns-2 c =
     write-sizes s (a .buffer .now) (v .0 .0) (sym (c .before .before .before .sizes-verdict .ensures) ∙ ap numbered (v .1))
 
 returns-3 : tie.Need-returns-3
+unfolding image
 returns-3 c =
     let a = c .before .before .before .before .before .before .before .before .before .before .before .before .args in
     let s : State = state (a .machine) (a .registers .now) (a .memory .now) in
