@@ -8,6 +8,7 @@ use lib.Dec.{eqb}
 use Rattle.isa.specs.Text.{bytes}
 use Rattle.isa.specs.Types.{Or, And, Xor, Add, Sub, Mullo, Mulhi, Mulhu, Ashr, Shr, Shl, Clz, Ctz, Move, Sext8, Sext16, Eq, Ne, Gt, Ge, Lt, Le, Ugt, Uge, Ult, Ule, Operation, Binary, Unary, Compare, Shuffle, GetLane}
 use Rattle.isa.specs.Types.{MoveiOp, Low, High, Whole, JumpOp, Jmp, Jmpsr, Jret, Beqz, Bnez, ControlOp, Barrier, Readcr, End, Load8, Load16, Load32, Load8u, Load16u, Store8, Store16, Store32, MemoryOp, Load, Store, LoadVector, StoreVector}
+use Rattle.isa.specs.Types.{Instruction, R, I, Movei, J, C, M}
 
 -- a row: the opcode of an operation, and its name
 pub record Row : Type 0 where
@@ -130,3 +131,12 @@ find rowOf (op ∷ ops) o = elim (eqb o (rowOf op .opcode)) [ true ↦ some op |
 -- the operation of an opcode in a table
 abbrev pub operationAt : {A : Type 0} → Table A → ℕ → Option A
 operationAt t o = find (t .rowOf) (t .operations) o
+
+-- the opcode of an instruction in its format's table
+abbrev pub opcodeOf : Instruction → ℕ
+opcodeOf (R op flags d a b) = rowR op .opcode
+opcodeOf (I op flags d a immediate) = rowI op .opcode
+opcodeOf (Movei op flag d immediate) = rowMovei op .opcode
+opcodeOf (J op register offset) = rowJ op .opcode
+opcodeOf (C op first second) = rowC op .opcode
+opcodeOf (M op register base offset) = rowM op .opcode
