@@ -22,7 +22,7 @@ use Rattle.isa.specs.Layout.{Part, bits, width, split, cut, signed, layoutR, la
 use Rattle.isa.specs.Rule.{allowsI, allowsJ, allowsM}
 use Rattle.isa.specs.Table.{rowR, rowI, rowMovei, rowJ, rowC, rowM}
 use Rattle.isa.specs.Test.{all}
-use Rattle.isa.specs.Write.{write}
+use Rattle.isa.specs.Write.{write, writeR, writeI, writeMovei, writeJ, writeC, writeM}
 use Rattle.fields.specs.Claims.{Owned, HasWord, Numbered, WordAgain, NumbersAgain, Rows}
 use Rattle.fields.specs.Find.{Held, held, beside, written, wordFor}
 use Rattle.fields.specs.Instructions.{instructionNumbers, shaped, owned, instructionOf}
@@ -48,7 +48,7 @@ pub record Laid (i : Instruction) (w : ℕ) : Type 0 where
   pub back : wordOf (instructionNumbers i) ≡ w
 
 pub laid-numbers : (i : Instruction) (w : ℕ) → write i ≡ given w → Laid i w
-unfolding write numbersOf wordOf
+unfolding write writeR writeI writeMovei writeJ writeC writeM numbersOf wordOf
 laid-numbers (R op flags d a b) w e =
     let l = laid-is layoutR refl (0b00 ∷ rowR op .opcode ∷ d ∷ a ∷ b ∷ 0 ∷ 0 ∷ flags ∷ 0 ∷ []) refl _ w e in
     let p : bits w 31 30 ≡ 0b00 = cc in

@@ -17,7 +17,7 @@ use Rattle.isa.proofs.RoundTrip.{exact}
 use Rattle.isa.specs.Claims.{Exact}
 use Rattle.isa.specs.Layout.{Part, width, room, layoutR, layoutI, layoutMovei, layoutJ, layoutC, layoutM}
 use Rattle.isa.specs.Read.{read}
-use Rattle.isa.specs.Write.{write, written as laid}
+use Rattle.isa.specs.Write.{write, written as laid, writeR, writeI, writeMovei, writeJ, writeC, writeM}
 use Rattle.fields.proofs.Again.{laid-numbers, numbered, own, same, has-word}
 use Rattle.fields.specs.Claims.{HasWord, Numbered}
 use Rattle.fields.specs.Find.{Held, held, beside, written, wordFor}
@@ -110,7 +110,7 @@ laid-six i true w = tt
 laid-six i false w = refl
 
 write-six : (i : Instruction) → Six (beside i (write i))
-unfolding write
+unfolding write writeR writeI writeMovei writeJ writeC writeM
 write-six (R op flags d a b) = laid-six _ _ _
 write-six (I op flags d a immediate) = laid-six _ _ _
 write-six (Movei op flag d immediate) = laid-six _ _ _

@@ -20,7 +20,7 @@ use Rattle.isa.specs.Read.{reads, read, readR, readI, readMovei, readJ, 
 use Rattle.isa.specs.Rule.{allowsR, allowsI, allowsMovei, allowsJ, allowsC, allowsM}
 use Rattle.isa.specs.Table.{rowR, rowI, rowMovei, rowJ, rowC, rowM, tableR, tableMovei, tableJ, tableC, tableM}
 use Rattle.isa.specs.Types.{Instruction, R, I, Movei, J, C, M}
-use Rattle.isa.specs.Write.{write}
+use Rattle.isa.specs.Write.{write, writeR, writeI, writeMovei, writeJ, writeC, writeM}
 
 fitted-is : (t : Bool) (n : ℕ) (x : Answer Instruction) (i : Instruction) → cond t (refused n) x ≡ given i → (t ≡ false) × (x ≡ given i)
 fitted-is true n x i e = not-given n i e
@@ -35,7 +35,7 @@ not-one n l e = let f = eqb-false n 1 e in omega arith
 
 -- The word of an instruction is read as it, by format.
 write-read : (i : Instruction) (w : ℕ) → write i ≡ given w → read w ≡ given i
-unfolding write read readR readI readMovei readJ readC readM asR asI asMovei asJ asC asM listed
+unfolding write writeR writeI writeMovei writeJ writeC writeM read readR readI readMovei readJ readC readM asR asI asMovei asJ asC asM listed
 write-read (R op flags d a b) w e =
     let l = laid-is layoutR refl (0b00 ∷ rowR op .opcode ∷ d ∷ a ∷ b ∷ 0 ∷ 0 ∷ flags ∷ 0 ∷ []) refl _ w e in
     let p : bits w 31 30 ≡ 0b00 = cc in
@@ -98,7 +98,7 @@ write-read (M op register base offset) w e =
 
 -- A word that is read as an instruction is its word, by format.
 from-R : (w : ℕ) (i : Instruction) → w < 2 ^ 32 → bits w 31 30 ≡ 0b00 → readR w ≡ given i → write i ≡ given w
-unfolding readR asR write
+unfolding readR asR write writeR
 from-R w i b p e =
     let o = listed-is _ (asR w) _ i e in
     let f = fitted-is _ not-fitted _ i (o .is) in
@@ -112,7 +112,7 @@ from-R w i b p e =
     (lay layoutR refl (0b00 ∷ rowR (o .op) .opcode ∷ bits w 23 18 ∷ bits w 17 12 ∷ bits w 11 6 ∷ 0 ∷ 0 ∷ bits w 3 1 ∷ 0 ∷ []) _ w (h .1 .1 .0) (cc) b)
 
 from-I : (w : ℕ) (i : Instruction) → w < 2 ^ 32 → bits w 31 29 ≡ 0b010 → readI w ≡ given i → write i ≡ given w
-unfolding readI asI write
+unfolding readI asI write writeI
 from-I w i b p e =
     let o = listed-is _ (asI w) _ i e in
     let t = accepted-is _ _ i (o .is) in
@@ -126,7 +126,7 @@ from-I w i b p e =
     (and-both _ _ (h .1 .0) (fits-signed-field (2 ^ 8) (2 ^ 23 - 1) refl (bits w 11 3) n)) (cc) b)
 
 from-Movei : (w : ℕ) (i : Instruction) → w < 2 ^ 32 → bits w 31 27 ≡ 0b01100 → readMovei w ≡ given i → write i ≡ given w
-unfolding readMovei asMovei write
+unfolding readMovei asMovei write writeMovei
 from-Movei w i b p e =
     let o = listed-is _ (asMovei w) _ i e in
     let t = accepted-is _ _ i (o .is) in
@@ -137,7 +137,7 @@ from-Movei w i b p e =
     (lay layoutMovei refl (0b01100 ∷ rowMovei (o .op) .opcode ∷ bits w 23 18 ∷ bits w 17 2 ∷ bits w 1 1 ∷ 0 ∷ []) _ w (h .1 .0) (cc) b)
 
 from-J : (w : ℕ) (i : Instruction) → w < 2 ^ 32 → bits w 31 27 ≡ 0b01110 → readJ w ≡ given i → write i ≡ given w
-unfolding readJ asJ write
+unfolding readJ asJ write writeJ
 from-J w i b p e =
     let o = listed-is _ (asJ w) _ i e in
     let t = accepted-is _ _ i (o .is) in
@@ -149,7 +149,7 @@ from-J w i b p e =
     (and-both _ _ (t .0) (fits-signed-field (2 ^ 17) (2 ^ 14 - 1) refl (bits w 17 0) n)) (cc) b)
 
 from-C : (w : ℕ) (i : Instruction) → w < 2 ^ 32 → bits w 31 27 ≡ 0b01111 → readC w ≡ given i → write i ≡ given w
-unfolding readC asC write
+unfolding readC asC write writeC
 from-C w i b p e =
     let o = listed-is _ (asC w) _ i e in
     let t = accepted-is _ _ i (o .is) in
@@ -159,7 +159,7 @@ from-C w i b p e =
     rw (← t .1) (lay layoutC refl (0b01111 ∷ rowC (o .op) .opcode ∷ bits w 23 18 ∷ bits w 17 12 ∷ 0 ∷ []) _ w (h .1 .0) (cc) b)
 
 from-M : (w : ℕ) (i : Instruction) → w < 2 ^ 32 → bits w 31 30 ≡ 0b10 → readM w ≡ given i → write i ≡ given w
-unfolding readM asM write
+unfolding readM asM write writeM
 from-M w i b p e =
     let o = listed-is _ (asM w) _ i e in
     let f = scalar-is _ not-fitted _ i (o .is) in
