@@ -35,7 +35,7 @@ pub extern "C" fn korvammel_read_word(word: u32, instruction: &mut [u32; 6]) -> 
     let reading = isa::read_word(word);
     match reading {
         Reading::Defined(_) => {
-            put_numbers(fields::split(word), instruction);
+            put_numbers(fields::unpack(word), instruction);
             0
         }
         Reading::Undefined => 7,
