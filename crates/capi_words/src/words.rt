@@ -35,7 +35,7 @@ pub extern "C" fn korvammel_read_word(word: u32, instruction: &mut [u32; 6]) -> 
     let reading = isa::read_word(word);
     match reading {
         Reading::Defined(_) => {
-            put_numbers(fields::split(word), instruction);
+            put_numbers(fields::unpack(word), instruction);
             0
         }
         Reading::Undefined => 7,
@@ -61,7 +61,7 @@ pub extern "C" fn korvammel_write_word(instruction: &[u32; 6], word: &mut u32) -
     }
 }
 
-// Puts an instruction's name, and answers its length.
+// Puts an instruction's name, and answers its length. No name is longer than eight bytes.
 #[no_mangle]
 pub extern "C" fn korvammel_name(instruction: &[u32; 6], name: &mut [u8; 8]) -> usize
     ensures { λ r. ⌜ left r (now (name .exit)) ≡ nameCall (now (instruction .entry)) (now (name .entry)) ⌝ }
@@ -74,7 +74,16 @@ pub extern "C" fn korvammel_name(instruction: &[u32; 6], name: &mut [u8; 8]) -> 
         } => {
             let spelled = names::name_of(i);
             let bytes = spelled.bytes;
-            *name = bytes;
+            *name = [
+                bytes[0],
+                bytes[1],
+                bytes[2],
+                bytes[3],
+                bytes[4],
+                bytes[5],
+                bytes[6],
+                bytes[7],
+            ];
             spelled.len
         }
         Found::NoWord => 0,

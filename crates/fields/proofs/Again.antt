@@ -10,112 +10,112 @@ use lib.Dec.{eqb}
 use lib.Pow.{pow-pos}
 use borrow.Author.Tests.{eq-eqb, eqb-true}
 use Rattle.answer.specs.Answer.{Answer, given, refused, no-word}
-use Rattle.isa.proofs.Answers.{not-given, laid-is}
+use Rattle.isa.proofs.Answers.{not-given, encoded-is}
 use Rattle.isa.proofs.Both.{and-right, each}
 use Rattle.isa.proofs.Formats.{is-R, is-I, is-Movei, is-J, is-C, is-M}
-use Rattle.isa.proofs.Parts.{covers, join-split}
+use Rattle.isa.proofs.Parts.{covers, pack-unpack}
 use Rattle.isa.proofs.RoundTrip.{exact}
-use Rattle.isa.proofs.Signed.{signed-cut}
+use Rattle.isa.proofs.Signed.{signed-truncated}
 use Rattle.isa.proofs.Tables.{finds-R, finds-Movei, finds-J, finds-C, finds-M}
 use Rattle.isa.specs.Claims.{Exact}
-use Rattle.isa.specs.Layout.{Part, bits, width, split, cut, signed, layoutR, layoutI, layoutMovei, layoutJ, layoutC, layoutM}
+use Rattle.isa.specs.Layout.{Part, bits, width, unpack, truncated, signed, layoutR, layoutI, layoutMovei, layoutJ, layoutC, layoutM}
 use Rattle.isa.specs.Rule.{allowsI, allowsJ, allowsM}
 use Rattle.isa.specs.Table.{rowR, rowI, rowMovei, rowJ, rowC, rowM}
 use Rattle.isa.specs.Test.{all}
-use Rattle.isa.specs.Write.{write}
+use Rattle.isa.specs.Write.{write, writeR, writeI, writeMovei, writeJ, writeC, writeM}
 use Rattle.fields.specs.Claims.{Owned, HasWord, Numbered, WordAgain, NumbersAgain, Rows}
 use Rattle.fields.specs.Find.{Held, held, beside, written, wordFor}
 use Rattle.fields.specs.Instructions.{instructionNumbers, shaped, owned, instructionOf}
-use Rattle.fields.specs.Numbers.{splits, sameNumbers, reduced, filled, numbersOf, wordOf}
+use Rattle.fields.specs.Numbers.{unpacks, sameNumbers, reduced, filled, numbersOf, wordOf}
 use Rattle.fields.specs.Types.{Numbers, Instruction, R, I, Movei, J, C, M}
 
 -- a word is filled again with its parts
-reduced-split : (ps : List Part) (w : ℕ) → reduced ps (split ps w) ≡ split ps w
-reduced-split [] w = refl
-reduced-split (p ∷ ps) w = rw (mod-eq-of-lt (mod-lt (w / 2 ^ (p .low)) (pow-pos (width p))), reduced-split ps w)
+reduced-unpack : (ps : List Part) (w : ℕ) → reduced ps (unpack ps w) ≡ unpack ps w
+reduced-unpack [] w = refl
+reduced-unpack (p ∷ ps) w = rw (mod-eq-of-lt (mod-lt (w / 2 ^ (p .low)) (pow-pos (width p))), reduced-unpack ps w)
 
-filled-split : (ps : List Part) → covers 32 ps ≡ true → (vs : List ℕ) (w : ℕ) → w < 2 ^ 32 → reduced ps (split ps w) ≡ reduced ps vs → filled ps vs ≡ w
-filled-split ps c vs w b e = rw (← e, reduced-split ps w, join-split 32 ps c w) (mod-eq-of-lt b)
+filled-unpack : (ps : List Part) → covers 32 ps ≡ true → (vs : List ℕ) (w : ℕ) → w < 2 ^ 32 → reduced ps (unpack ps w) ≡ reduced ps vs → filled ps vs ≡ w
+filled-unpack ps c vs w b e = rw (← e, reduced-unpack ps w, pack-unpack 32 ps c w) (mod-eq-of-lt b)
 
--- a number is cut once
-cut-again : (m n : ℕ) → 0 < m → n % m % m ≡ n % m
-cut-again m n p = mod-eq-of-lt (mod-lt n p)
+-- a number is truncated once
+truncated-again : (m n : ℕ) → 0 < m → n % m % m ≡ n % m
+truncated-again m n p = mod-eq-of-lt (mod-lt n p)
 
 -- What the word of an instruction says of its numbers, by format: they are the instruction's, and the word is filled again with them.
-pub record Laid (i : Instruction) (w : ℕ) : Type 0 where
+pub record Encoded (i : Instruction) (w : ℕ) : Type 0 where
   pub below : w < 2 ^ 32
   pub own : numbersOf w ≡ instructionNumbers i
   pub back : wordOf (instructionNumbers i) ≡ w
 
-pub laid-numbers : (i : Instruction) (w : ℕ) → write i ≡ given w → Laid i w
-unfolding write numbersOf wordOf
-laid-numbers (R op flags d a b) w e =
-    let l = laid-is layoutR refl (0b00 ∷ rowR op .opcode ∷ d ∷ a ∷ b ∷ 0 ∷ 0 ∷ flags ∷ 0 ∷ []) refl _ w e in
+pub encoded-numbers : (i : Instruction) (w : ℕ) → write i ≡ given w → Encoded i w
+unfolding write writeR writeI writeMovei writeJ writeC writeM numbersOf wordOf
+encoded-numbers (R op flags d a b) w e =
+    let l = encoded-is layoutR refl (0b00 ∷ rowR op .opcode ∷ d ∷ a ∷ b ∷ 0 ∷ 0 ∷ flags ∷ 0 ∷ []) refl _ w e in
     let p : bits w 31 30 ≡ 0b00 = cc in
     record {
       below = l .below;
-      own = is-R splits w p ∙ cc;
+      own = is-R unpacks w p ∙ cc;
       back =
-          filled-split layoutR refl (0b00 ∷ rowR op .opcode ∷ d ∷ a ∷ b ∷ 0 ∷ 0 ∷ flags ∷ 0 ∷ []) w (l .below)
+          filled-unpack layoutR refl (0b00 ∷ rowR op .opcode ∷ d ∷ a ∷ b ∷ 0 ∷ 0 ∷ flags ∷ 0 ∷ []) w (l .below)
           (ap (reduced layoutR) (l .parts));
     }
-laid-numbers (I op flags d a immediate) w e =
-    let l = laid-is layoutI refl (0b010 ∷ rowI op .opcode ∷ d ∷ a ∷ cut (2 ^ 8) immediate ∷ flags ∷ 0 ∷ []) refl _ w e in
+encoded-numbers (I op flags d a immediate) w e =
+    let l = encoded-is layoutI refl (0b010 ∷ rowI op .opcode ∷ d ∷ a ∷ truncated (2 ^ 8) immediate ∷ flags ∷ 0 ∷ []) refl _ w e in
     let p : bits w 31 29 ≡ 0b010 = cc in
-    let s = signed-cut (2 ^ 8) immediate (and-right (allowsI op flags d) _ (l .allows)) in
+    let s = signed-truncated (2 ^ 8) immediate (and-right (allowsI op flags d) _ (l .allows)) in
     record {
       below = l .below;
-      own = is-I splits w p ∙ cc;
+      own = is-I unpacks w p ∙ cc;
       back =
-          filled-split layoutI refl (0b010 ∷ rowI op .opcode ∷ d ∷ a ∷ immediate ∷ flags ∷ 0 ∷ []) w (l .below)
-          (ap (reduced layoutI) (l .parts) ∙ rw (cut-again (2 ^ 9) immediate (pow-pos 9)));
+          filled-unpack layoutI refl (0b010 ∷ rowI op .opcode ∷ d ∷ a ∷ immediate ∷ flags ∷ 0 ∷ []) w (l .below)
+          (ap (reduced layoutI) (l .parts) ∙ rw (truncated-again (2 ^ 9) immediate (pow-pos 9)));
     }
-laid-numbers (Movei op flag d immediate) w e =
-    let l = laid-is layoutMovei refl (0b01100 ∷ rowMovei op .opcode ∷ d ∷ immediate ∷ flag ∷ 0 ∷ []) refl _ w e in
+encoded-numbers (Movei op flag d immediate) w e =
+    let l = encoded-is layoutMovei refl (0b01100 ∷ rowMovei op .opcode ∷ d ∷ immediate ∷ flag ∷ 0 ∷ []) refl _ w e in
     let p : bits w 31 27 ≡ 0b01100 = cc in
     record {
       below = l .below;
-      own = is-Movei splits w p ∙ cc;
+      own = is-Movei unpacks w p ∙ cc;
       back =
-          filled-split layoutMovei refl (0b01100 ∷ rowMovei op .opcode ∷ d ∷ immediate ∷ flag ∷ 0 ∷ []) w (l .below)
+          filled-unpack layoutMovei refl (0b01100 ∷ rowMovei op .opcode ∷ d ∷ immediate ∷ flag ∷ 0 ∷ []) w (l .below)
           (ap (reduced layoutMovei) (l .parts));
     }
-laid-numbers (J op register offset) w e =
-    let l = laid-is layoutJ refl (0b01110 ∷ rowJ op .opcode ∷ register ∷ cut (2 ^ 17) offset ∷ []) refl _ w e in
+encoded-numbers (J op register offset) w e =
+    let l = encoded-is layoutJ refl (0b01110 ∷ rowJ op .opcode ∷ register ∷ truncated (2 ^ 17) offset ∷ []) refl _ w e in
     let p : bits w 31 27 ≡ 0b01110 = cc in
-    let s = signed-cut (2 ^ 17) offset (and-right (allowsJ op register offset) _ (l .allows)) in
+    let s = signed-truncated (2 ^ 17) offset (and-right (allowsJ op register offset) _ (l .allows)) in
     record {
       below = l .below;
-      own = is-J splits w p ∙ cc;
+      own = is-J unpacks w p ∙ cc;
       back =
-          filled-split layoutJ refl (0b01110 ∷ rowJ op .opcode ∷ register ∷ offset ∷ []) w (l .below)
-          (ap (reduced layoutJ) (l .parts) ∙ rw (cut-again (2 ^ 18) offset (pow-pos 18)));
+          filled-unpack layoutJ refl (0b01110 ∷ rowJ op .opcode ∷ register ∷ offset ∷ []) w (l .below)
+          (ap (reduced layoutJ) (l .parts) ∙ rw (truncated-again (2 ^ 18) offset (pow-pos 18)));
     }
-laid-numbers (C op first second) w e =
-    let l = laid-is layoutC refl (0b01111 ∷ rowC op .opcode ∷ first ∷ second ∷ 0 ∷ []) refl _ w e in
+encoded-numbers (C op first second) w e =
+    let l = encoded-is layoutC refl (0b01111 ∷ rowC op .opcode ∷ first ∷ second ∷ 0 ∷ []) refl _ w e in
     let p : bits w 31 27 ≡ 0b01111 = cc in
     record {
       below = l .below;
-      own = is-C splits w p ∙ cc;
+      own = is-C unpacks w p ∙ cc;
       back =
-          filled-split layoutC refl (0b01111 ∷ rowC op .opcode ∷ first ∷ second ∷ 0 ∷ []) w (l .below)
+          filled-unpack layoutC refl (0b01111 ∷ rowC op .opcode ∷ first ∷ second ∷ 0 ∷ []) w (l .below)
           (ap (reduced layoutC) (l .parts));
     }
-laid-numbers (M op register base offset) w e =
-    let l = laid-is layoutM refl (0b10 ∷ rowM op .opcode ∷ register ∷ base ∷ cut (2 ^ 8) offset ∷ 0 ∷ 0 ∷ []) refl _ w e in
+encoded-numbers (M op register base offset) w e =
+    let l = encoded-is layoutM refl (0b10 ∷ rowM op .opcode ∷ register ∷ base ∷ truncated (2 ^ 8) offset ∷ 0 ∷ 0 ∷ []) refl _ w e in
     let p : bits w 31 30 ≡ 0b10 = cc in
-    let s = signed-cut (2 ^ 8) offset (and-right (allowsM op register) _ (l .allows)) in
+    let s = signed-truncated (2 ^ 8) offset (and-right (allowsM op register) _ (l .allows)) in
     record {
       below = l .below;
-      own = is-M splits w p ∙ cc;
+      own = is-M unpacks w p ∙ cc;
       back =
-          filled-split layoutM refl (0b10 ∷ rowM op .opcode ∷ register ∷ base ∷ offset ∷ 0 ∷ 0 ∷ []) w (l .below)
-          (ap (reduced layoutM) (l .parts) ∙ rw (cut-again (2 ^ 9) offset (pow-pos 9)));
+          filled-unpack layoutM refl (0b10 ∷ rowM op .opcode ∷ register ∷ base ∷ offset ∷ 0 ∷ 0 ∷ []) w (l .below)
+          (ap (reduced layoutM) (l .parts) ∙ rw (truncated-again (2 ^ 9) offset (pow-pos 9)));
     }
 
 pub numbered : Numbered
 unfolding Numbered Exact
-numbered w i u e = laid-numbers i w (exact w i u .0 e) .own
+numbered w i u e = encoded-numbers i w (exact w i u .0 e) .own
 
 -- numbers are the same as themselves, and as no others
 pub own : (n : Numbers) → sameNumbers n n ≡ true
@@ -188,7 +188,7 @@ pub numbers-again : NumbersAgain
 unfolding NumbersAgain HasWord Exact
 numbers-again n h e =
     let k = has-word n (h .word) (h .instruction) .0 e in
-    let l = laid-numbers (h .instruction) (h .word) (k .1) in
+    let l = encoded-numbers (h .instruction) (h .word) (k .1) in
     (exact (h .word) (h .instruction) (l .below) .1 (k .1), l .own ∙ sym (k .0))
 
 pub rows-hold : Rows

@@ -12,13 +12,13 @@ use borrow.Author.Tests.{lt-ltb}
 use Rattle.answer.specs.Answer.{Answer, given, refused, no-word}
 use Rattle.isa.proofs.Answers.{not-given}
 use Rattle.isa.proofs.Both.{Each}
-use Rattle.isa.proofs.Parts.{covers, join-below}
+use Rattle.isa.proofs.Parts.{covers, pack-below}
 use Rattle.isa.proofs.RoundTrip.{exact}
 use Rattle.isa.specs.Claims.{Exact}
 use Rattle.isa.specs.Layout.{Part, width, room, layoutR, layoutI, layoutMovei, layoutJ, layoutC, layoutM}
 use Rattle.isa.specs.Read.{read}
-use Rattle.isa.specs.Write.{write, written as laid}
-use Rattle.fields.proofs.Again.{laid-numbers, numbered, own, same, has-word}
+use Rattle.isa.specs.Write.{write, written as encoded, writeR, writeI, writeMovei, writeJ, writeC, writeM}
+use Rattle.fields.proofs.Again.{encoded-numbers, numbered, own, same, has-word}
 use Rattle.fields.specs.Claims.{HasWord, Numbered}
 use Rattle.fields.specs.Find.{Held, held, beside, written, wordFor}
 use Rattle.fields.specs.Instructions.{instructionNumbers, instructionOf}
@@ -37,7 +37,7 @@ room-reduced (p ∷ ps) [] = tt
 room-reduced (p ∷ ps) (v ∷ vs) = (lt-ltb _ _ (mod-lt v (pow-pos (width p))), room-reduced ps vs)
 
 filled-below : (ps : List Part) → covers 32 ps ≡ true → (vs : List ℕ) → length (reduced ps vs) ≡ length ps → filled ps vs < 2 ^ 32
-filled-below ps c vs l = join-below 32 ps c (reduced ps vs) l (room-reduced ps vs)
+filled-below ps c vs l = pack-below 32 ps c (reduced ps vs) l (room-reduced ps vs)
 
 either-below : (t : Bool) (x y : ℕ) → x < 2 ^ 32 → y < 2 ^ 32 → cond t x y < 2 ^ 32
 either-below true x y p q = p
@@ -85,7 +85,7 @@ is-found : (n : Numbers) (h : Held) → wordFor n ≡ given h → matched n (wor
 unfolding HasWord Exact
 is-found n h e =
     let k = has-word n (h .word) (h .instruction) .0 e in
-    let l = laid-numbers (h .instruction) (h .word) (k .1) in
+    let l = encoded-numbers (h .instruction) (h .word) (k .1) in
     let w : wordOf n ≡ h .word = ap wordOf (k .0) ∙ l .back in
     let r : numbersOf (h .word) ≡ n = l .own ∙ sym (k .0) in
     rw (w, exact (h .word) (h .instruction) (l .below) .1 (k .1), r, own n)
@@ -104,19 +104,19 @@ matched-six n w (given i) = by (sameNumbers (numbersOf w) n)
     by true = tt
     by false = refl
 
-laid-six : (i : Instruction) (t : Bool) (w : ℕ) → Six (beside i (laid t w))
-unfolding laid
-laid-six i true w = tt
-laid-six i false w = refl
+encoded-six : (i : Instruction) (t : Bool) (w : ℕ) → Six (beside i (encoded t w))
+unfolding encoded
+encoded-six i true w = tt
+encoded-six i false w = refl
 
 write-six : (i : Instruction) → Six (beside i (write i))
-unfolding write
-write-six (R op flags d a b) = laid-six _ _ _
-write-six (I op flags d a immediate) = laid-six _ _ _
-write-six (Movei op flag d immediate) = laid-six _ _ _
-write-six (J op register offset) = laid-six _ _ _
-write-six (C op first second) = laid-six _ _ _
-write-six (M op register base offset) = laid-six _ _ _
+unfolding write writeR writeI writeMovei writeJ writeC writeM
+write-six (R op flags d a b) = encoded-six _ _ _
+write-six (I op flags d a immediate) = encoded-six _ _ _
+write-six (Movei op flag d immediate) = encoded-six _ _ _
+write-six (J op register offset) = encoded-six _ _ _
+write-six (C op first second) = encoded-six _ _ _
+write-six (M op register base offset) = encoded-six _ _ _
 
 written-six : (o : Option Instruction) → Six (written o)
 written-six none = refl

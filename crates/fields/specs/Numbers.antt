@@ -3,7 +3,7 @@ use Prim.Native.Nat.{ℕ, _%_, _^_}
 use mathlib.Core.Bool.{Bool, _&&_, cond}
 use mathlib.Core.List.{List, [], _∷_}
 use lib.Dec.{eqb}
-use Rattle.isa.specs.Layout.{bits, signed, Part, width, join, layoutR, layoutI, layoutMovei, layoutJ, layoutC, layoutM}
+use Rattle.isa.specs.Layout.{bits, signed, Part, width, pack, layoutR, layoutI, layoutMovei, layoutJ, layoutC, layoutM}
 use Rattle.isa.specs.Read.{Formats, byFormat}
 use Rattle.fields.specs.Types.{Numbers}
 
@@ -20,37 +20,37 @@ sameNumbers a b =
 -- A word's numbers, by format: 0 R, 1 I, 2 MOVEI, 3 J, 4 C, 5 M. Where a format has no such field, the number is 0.
 
 -- "R: .. opcode 29-24, d 23-18, a 17-12, b 11-6, .. vector flags bit 3 (d), 2 (a), 1 (b)."
-abbrev pub splitR : ℕ → Numbers
-splitR w = numbers 0 (bits w 29 24) (bits w 3 1) (bits w 23 18) (bits w 17 12) (bits w 11 6)
+abbrev pub unpackR : ℕ → Numbers
+unpackR w = numbers 0 (bits w 29 24) (bits w 3 1) (bits w 23 18) (bits w 17 12) (bits w 11 6)
 
 -- "I: .. opcode 28-24, d 23-18, a 17-12, signed immediate 11-3, flags bit 2 (d), 1 (a)."
-abbrev pub splitI : ℕ → Numbers
-splitI w = numbers 1 (bits w 28 24) (bits w 2 1) (bits w 23 18) (bits w 17 12) (signed (2 ^ 8) (bits w 11 3))
+abbrev pub unpackI : ℕ → Numbers
+unpackI w = numbers 1 (bits w 28 24) (bits w 2 1) (bits w 23 18) (bits w 17 12) (signed (2 ^ 8) (bits w 11 3))
 
 -- "MOVEI: .. opcode 26-24, d 23-18, immediate 17-2, vector flag bit 1."
-abbrev pub splitMovei : ℕ → Numbers
-splitMovei w = numbers 2 (bits w 26 24) (bits w 1 1) (bits w 23 18) (bits w 17 2) 0
+abbrev pub unpackMovei : ℕ → Numbers
+unpackMovei w = numbers 2 (bits w 26 24) (bits w 1 1) (bits w 23 18) (bits w 17 2) 0
 
 -- "J: .. opcode 26-24, register 23-18, signed byte offset 17-0"
-abbrev pub splitJ : ℕ → Numbers
-splitJ w = numbers 3 (bits w 26 24) 0 (bits w 23 18) (signed (2 ^ 17) (bits w 17 0)) 0
+abbrev pub unpackJ : ℕ → Numbers
+unpackJ w = numbers 3 (bits w 26 24) 0 (bits w 23 18) (signed (2 ^ 17) (bits w 17 0)) 0
 
 -- "C: .. opcode 26-24, first register 23-18, second 17-12."
-abbrev pub splitC : ℕ → Numbers
-splitC w = numbers 4 (bits w 26 24) 0 (bits w 23 18) (bits w 17 12) 0
+abbrev pub unpackC : ℕ → Numbers
+unpackC w = numbers 4 (bits w 26 24) 0 (bits w 23 18) (bits w 17 12) 0
 
 -- "M: .. opcode 29-24, register 23-18, scalar base 17-12, signed offset 11-3"
-abbrev pub splitM : ℕ → Numbers
-splitM w = numbers 5 (bits w 29 24) 0 (bits w 23 18) (bits w 17 12) (signed (2 ^ 8) (bits w 11 3))
+abbrev pub unpackM : ℕ → Numbers
+unpackM w = numbers 5 (bits w 29 24) 0 (bits w 23 18) (bits w 17 12) (signed (2 ^ 8) (bits w 11 3))
 
 -- 6 and zeros where it has no format
-abbrev pub splits : ℕ → Formats Numbers
-splits w =
-    record { r = splitR w; i = splitI w; movei = splitMovei w; j = splitJ w; c = splitC w; m = splitM w; other = numbers 6 0 0 0 0 0 }
+abbrev pub unpacks : ℕ → Formats Numbers
+unpacks w =
+    record { r = unpackR w; i = unpackI w; movei = unpackMovei w; j = unpackJ w; c = unpackC w; m = unpackM w; other = numbers 6 0 0 0 0 0 }
 
 -- the numbers of a word
 unfoldable pub numbersOf : ℕ → Numbers
-numbersOf w = byFormat splits w
+numbersOf w = byFormat unpacks w
 
 -- each number modulo what its part has room for
 abbrev pub reduced : List Part → List ℕ → List ℕ
@@ -60,35 +60,35 @@ reduced (p ∷ ps) (v ∷ vs) = v % 2 ^ width p ∷ reduced ps vs
 
 -- the word with these numbers in the layout's parts
 abbrev pub filled : List Part → List ℕ → ℕ
-filled layout vs = join layout (reduced layout vs)
+filled layout vs = pack layout (reduced layout vs)
 
 -- The word with six numbers in its fields, by format. "Unnamed bits are 0."
 
-abbrev pub joinR : Numbers → ℕ
-joinR n = filled layoutR (0b00 ∷ n .opcode ∷ n .first ∷ n .second ∷ n .third ∷ 0 ∷ 0 ∷ n .flags ∷ 0 ∷ [])
+abbrev pub packR : Numbers → ℕ
+packR n = filled layoutR (0b00 ∷ n .opcode ∷ n .first ∷ n .second ∷ n .third ∷ 0 ∷ 0 ∷ n .flags ∷ 0 ∷ [])
 
-abbrev pub joinI : Numbers → ℕ
-joinI n = filled layoutI (0b010 ∷ n .opcode ∷ n .first ∷ n .second ∷ n .third ∷ n .flags ∷ 0 ∷ [])
+abbrev pub packI : Numbers → ℕ
+packI n = filled layoutI (0b010 ∷ n .opcode ∷ n .first ∷ n .second ∷ n .third ∷ n .flags ∷ 0 ∷ [])
 
-abbrev pub joinMovei : Numbers → ℕ
-joinMovei n = filled layoutMovei (0b01100 ∷ n .opcode ∷ n .first ∷ n .second ∷ n .flags ∷ 0 ∷ [])
+abbrev pub packMovei : Numbers → ℕ
+packMovei n = filled layoutMovei (0b01100 ∷ n .opcode ∷ n .first ∷ n .second ∷ n .flags ∷ 0 ∷ [])
 
-abbrev pub joinJ : Numbers → ℕ
-joinJ n = filled layoutJ (0b01110 ∷ n .opcode ∷ n .first ∷ n .second ∷ [])
+abbrev pub packJ : Numbers → ℕ
+packJ n = filled layoutJ (0b01110 ∷ n .opcode ∷ n .first ∷ n .second ∷ [])
 
-abbrev pub joinC : Numbers → ℕ
-joinC n = filled layoutC (0b01111 ∷ n .opcode ∷ n .first ∷ n .second ∷ 0 ∷ [])
+abbrev pub packC : Numbers → ℕ
+packC n = filled layoutC (0b01111 ∷ n .opcode ∷ n .first ∷ n .second ∷ 0 ∷ [])
 
-abbrev pub joinM : Numbers → ℕ
-joinM n = filled layoutM (0b10 ∷ n .opcode ∷ n .first ∷ n .second ∷ n .third ∷ 0 ∷ 0 ∷ [])
+abbrev pub packM : Numbers → ℕ
+packM n = filled layoutM (0b10 ∷ n .opcode ∷ n .first ∷ n .second ∷ n .third ∷ 0 ∷ 0 ∷ [])
 
 -- 0, which is undefined, where no format has the number
 unfoldable pub wordOf : Numbers → ℕ
 wordOf n =
-    cond (eqb (n .format) 0) (joinR n)
-    (cond (eqb (n .format) 1) (joinI n)
-    (cond (eqb (n .format) 2) (joinMovei n)
-    (cond (eqb (n .format) 3) (joinJ n)
-    (cond (eqb (n .format) 4) (joinC n)
-    (cond (eqb (n .format) 5) (joinM n)
+    cond (eqb (n .format) 0) (packR n)
+    (cond (eqb (n .format) 1) (packI n)
+    (cond (eqb (n .format) 2) (packMovei n)
+    (cond (eqb (n .format) 3) (packJ n)
+    (cond (eqb (n .format) 4) (packC n)
+    (cond (eqb (n .format) 5) (packM n)
     0)))))

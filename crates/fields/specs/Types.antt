@@ -1,4 +1,4 @@
--- The types that the code declares, and those of instructions, under one roof.
+-- The types that the code declares, and those of instructions, in one module.
 pub use Rattle.fields.specs.declared.numbers.Numbers.{Numbers}
 pub use Rattle.fields.specs.declared.numbers.Found.{Found}
 pub use Rattle.fields.specs.declared.numbers.Found.the-variants.{Word, NoWord}

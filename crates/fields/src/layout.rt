@@ -38,7 +38,7 @@ fn long_signed(w: u32) -> u32
 }
 
 // The numbers of a word, by the format that its upper bits say.
-pub fn split(w: u32) -> Numbers
+pub fn unpack(w: u32) -> Numbers
     ensures { λ r. ⌜ r ≡ numbersOf w ⌝ }
 {
     let opcode = w / 0x1000000;
@@ -76,7 +76,7 @@ fn place(format: u32, opcode: u32, first: u32, rest: u32) -> u32
 }
 
 // The word with these numbers in its fields, each modulo what its field has room for; 0, which is undefined, where no format has the number.
-fn join(n: Numbers) -> u32
+fn pack(n: Numbers) -> u32
     ensures { λ r. ⌜ r ≡ wordOf n ⌝ }
 {
     let format = n.format;
@@ -138,8 +138,8 @@ fn same_numbers(a: Numbers, b: Numbers) -> bool
 pub fn find(n: Numbers) -> Found
     ensures { λ r. ⌜ found r ≡ wordFor n ⌝ }
 {
-    let word = join(n);
-    let own = same_numbers(split(word), n);
+    let word = pack(n);
+    let own = same_numbers(unpack(word), n);
     let reading = isa::read_word(word);
     match reading {
         Reading::Defined(instruction) => {

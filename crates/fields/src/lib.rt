@@ -3,6 +3,6 @@ mod layout;
 mod numbers;
 
 pub use layout::find;
-pub use layout::split;
+pub use layout::unpack;
 pub use numbers::Found;
 pub use numbers::Numbers;

@@ -8,13 +8,13 @@ use native.Mathlib.Nat.{mod-eq-of-lt, zero-add, zero-mul}
 use native.Mathlib.Omega.{arith}
 use lib.ListN.{length}
 use Rattle.isa.proofs.Both.{Each, each, together}
-use Rattle.isa.proofs.Parts.{covers, split-join, join-split, join-below, room-split}
+use Rattle.isa.proofs.Parts.{covers, unpack-pack, pack-unpack, pack-below, room-unpack}
 use Rattle.answer.specs.Answer.{Answer, given, refused, undefined}
-use Rattle.isa.specs.Layout.{Part, split, join, room}
+use Rattle.isa.specs.Layout.{Part, unpack, pack, room}
 use Rattle.isa.specs.Read.{accepted, listed}
 use Rattle.isa.specs.Test.{all}
 use Rattle.isa.specs.Types.{Instruction}
-use Rattle.isa.specs.Write.{written, laidOut}
+use Rattle.isa.specs.Write.{written, encoded}
 
 -- a refusal is no value
 pub not-given : {A B : Type 0} (n : ℕ) (a : A) → _≡_ {A = Answer A} (refused n) (given a) → B
@@ -48,30 +48,30 @@ unfolding written
 written-is true v w e = (refl, cc)
 written-is false v w e = not-given 6 w e
 
--- what a word that was laid out says: it was allowed, and its parts are the numbers
-pub record Laid (allowed : Bool) (layout : List Part) (numbers : List ℕ) (w : ℕ) : Type 0 where
+-- what a word that was encoded says: it was allowed, and its parts are the numbers
+pub record Encoded (allowed : Bool) (layout : List Part) (numbers : List ℕ) (w : ℕ) : Type 0 where
   pub allows : allowed ≡ true
-  pub parts : split layout w ≡ numbers
+  pub parts : unpack layout w ≡ numbers
   pub below : w < 2 ^ 32
 
--- numbers that were laid out have room
-pub fits : (layout : List Part) (numbers : List ℕ) (allowed : Bool) (w : ℕ) → laidOut allowed layout numbers ≡ given w → Each (room layout numbers)
-fits layout numbers allowed w e = each (allowed ∷ room layout numbers) (written-is (all (allowed ∷ room layout numbers)) (join layout numbers) w e .0) .1
+-- numbers that were encoded have room
+pub fits : (layout : List Part) (numbers : List ℕ) (allowed : Bool) (w : ℕ) → encoded allowed layout numbers ≡ given w → Each (room layout numbers)
+fits layout numbers allowed w e = each (allowed ∷ room layout numbers) (written-is (all (allowed ∷ room layout numbers)) (pack layout numbers) w e .0) .1
 
 module _ (layout : List Part) (c : covers 32 layout ≡ true) (numbers : List ℕ) (l : length numbers ≡ length layout) where
-  pub laid-is : (allowed : Bool) (w : ℕ) → laidOut allowed layout numbers ≡ given w → Laid allowed layout numbers w
-  laid-is allowed w e =
-      let t = written-is (all (allowed ∷ room layout numbers)) (join layout numbers) w e in
+  pub encoded-is : (allowed : Bool) (w : ℕ) → encoded allowed layout numbers ≡ given w → Encoded allowed layout numbers w
+  encoded-is allowed w e =
+      let t = written-is (all (allowed ∷ room layout numbers)) (pack layout numbers) w e in
       let h = each (allowed ∷ room layout numbers) (t .0) in
       record {
         allows = h .0;
-        parts = rw (← t .1) (rw (zero-mul, zero-add) at (split-join 32 layout c numbers l (h .1) 0));
-        below = rw (← t .1) (join-below 32 layout c numbers l (h .1));
+        parts = rw (← t .1) (rw (zero-mul, zero-add) at (unpack-pack 32 layout c numbers l (h .1) 0));
+        below = rw (← t .1) (pack-below 32 layout c numbers l (h .1));
       }
 
--- a word is laid out of its parts
-pub lay : (layout : List Part) → covers 32 layout ≡ true → (numbers : List ℕ) (allowed : Bool) (w : ℕ) →
-    allowed ≡ true → split layout w ≡ numbers → w < 2 ^ 32 → laidOut allowed layout numbers ≡ given w
+-- a word is encoded from its parts
+pub encodes : (layout : List Part) → covers 32 layout ≡ true → (numbers : List ℕ) (allowed : Bool) (w : ℕ) →
+    allowed ≡ true → unpack layout w ≡ numbers → w < 2 ^ 32 → encoded allowed layout numbers ≡ given w
 unfolding written
-lay layout c numbers allowed w a p b =
-    rw (← p, together (allowed ∷ room layout (split layout w)) (a, room-split layout w), join-split 32 layout c w, mod-eq-of-lt b)
+encodes layout c numbers allowed w a p b =
+    rw (← p, together (allowed ∷ room layout (unpack layout w)) (a, room-unpack layout w), pack-unpack 32 layout c w, mod-eq-of-lt b)

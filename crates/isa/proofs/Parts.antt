@@ -11,7 +11,7 @@ use lib.ListN.{length}
 use lib.Pow.{pow-pos, pow-add, mod-pow-add, high, low}
 use borrow.Author.Tests.{eqb-true, leb-true, ltb-true, lt-ltb}
 use Rattle.isa.proofs.Both.{and-left, and-right, Each}
-use Rattle.isa.specs.Layout.{Part, bits, width, split, join, room}
+use Rattle.isa.specs.Layout.{Part, bits, width, unpack, pack, room}
 
 -- the parts lie one below the other, from just below bit `top` down to bit 0
 abbrev pub covers : ℕ → List Part → Bool
@@ -31,39 +31,39 @@ first top p ps c =
     record { sum = omega arith; rest = and-right (leb (p .low) (p .high)) _ d }
 
 -- a word of `top` bits is what its parts make
-pub join-split : (top : ℕ) (ps : List Part) → covers top ps ≡ true → (w : ℕ) → join ps (split ps w) ≡ w % 2 ^ top
-join-split top [] c w = rw (eqb-true top 0 c) (sym (mod-one w))
-join-split top (p ∷ ps) c w =
+pub pack-unpack : (top : ℕ) (ps : List Part) → covers top ps ≡ true → (w : ℕ) → pack ps (unpack ps w) ≡ w % 2 ^ top
+pack-unpack top [] c w = rw (eqb-true top 0 c) (sym (mod-one w))
+pack-unpack top (p ∷ ps) c w =
     let f = first top p ps c in
-    rw (join-split (p .low) ps (f .rest) w, ← f .sum) (sym (mod-pow-add w (width p) (p .low)))
+    rw (pack-unpack (p .low) ps (f .rest) w, ← f .sum) (sym (mod-pow-add w (width p) (p .low)))
 
 -- numbers that have room make a word of `top` bits
-pub join-below : (top : ℕ) (ps : List Part) → covers top ps ≡ true → (vs : List ℕ) → length vs ≡ length ps → Each (room ps vs) → join ps vs < 2 ^ top
-join-below top [] c vs l h = pow-pos top
-join-below top (p ∷ ps) c [] l h = pow-pos top
-join-below top (p ∷ ps) c (v ∷ vs) l h =
+pub pack-below : (top : ℕ) (ps : List Part) → covers top ps ≡ true → (vs : List ℕ) → length vs ≡ length ps → Each (room ps vs) → pack ps vs < 2 ^ top
+pack-below top [] c vs l h = pow-pos top
+pack-below top (p ∷ ps) c [] l h = pow-pos top
+pack-below top (p ∷ ps) c (v ∷ vs) l h =
     let f = first top p ps c in
     rw (← f .sum, pow-add 2 (width p) (p .low))
-    (digits-lt (ltb-true v (2 ^ width p) (h .0)) (join-below (p .low) ps (f .rest) vs (suc-inj l) (h .1)))
+    (digits-lt (ltb-true v (2 ^ width p) (h .0)) (pack-below (p .low) ps (f .rest) vs (suc-inj l) (h .1)))
 
 -- a word has the parts that it was put together from, whatever stands above it
-pub split-join : (top : ℕ) (ps : List Part) → covers top ps ≡ true → (vs : List ℕ) → length vs ≡ length ps → Each (room ps vs) →
-    (x : ℕ) → split ps (x * 2 ^ top + join ps vs) ≡ vs
-split-join top [] c [] l h x = refl
-split-join top [] c (v ∷ vs) l h x = let z : _≡_ {A = ℕ} 0 1 = cc in absurd (omega arith)
-split-join top (p ∷ ps) c [] l h x = let z : _≡_ {A = ℕ} 0 1 = cc in absurd (omega arith)
-split-join top (p ∷ ps) c (v ∷ vs) l h x =
+pub unpack-pack : (top : ℕ) (ps : List Part) → covers top ps ≡ true → (vs : List ℕ) → length vs ≡ length ps → Each (room ps vs) →
+    (x : ℕ) → unpack ps (x * 2 ^ top + pack ps vs) ≡ vs
+unpack-pack top [] c [] l h x = refl
+unpack-pack top [] c (v ∷ vs) l h x = let z : _≡_ {A = ℕ} 0 1 = cc in absurd (omega arith)
+unpack-pack top (p ∷ ps) c [] l h x = let z : _≡_ {A = ℕ} 0 1 = cc in absurd (omega arith)
+unpack-pack top (p ∷ ps) c (v ∷ vs) l h x =
     let f = first top p ps c in
     let l′ = suc-inj l in
-    let r = join-below (p .low) ps (f .rest) vs l′ (h .1) in
+    let r = pack-below (p .low) ps (f .rest) vs l′ (h .1) in
     let y = x * 2 ^ width p + v in
-    rw (regroup x v (join ps vs) (width p) (p .low) top (f .sum), high y (p .low) r, low x (width p) (ltb-true v (2 ^ width p) (h .0)))
-    (ap (λ (t : List ℕ). v ∷ t) (split-join (p .low) ps (f .rest) vs l′ (h .1) y))
+    rw (regroup x v (pack ps vs) (width p) (p .low) top (f .sum), high y (p .low) r, low x (width p) (ltb-true v (2 ^ width p) (h .0)))
+    (ap (λ (t : List ℕ). v ∷ t) (unpack-pack (p .low) ps (f .rest) vs l′ (h .1) y))
   where
     regroup : (x v r j k t : ℕ) → j + k ≡ t → x * 2 ^ t + (v * 2 ^ k + r) ≡ (x * 2 ^ j + v) * 2 ^ k + r
     regroup x v r j k t e = rw (← e, pow-add 2 j k, ← mul-assoc x (2 ^ j) (2 ^ k), add-mul (x * 2 ^ j) v (2 ^ k)) (sym (add-assoc (x * 2 ^ j * 2 ^ k) (v * 2 ^ k) r))
 
 -- a word's parts have room
-pub room-split : (ps : List Part) (w : ℕ) → Each (room ps (split ps w))
-room-split [] w = tt
-room-split (p ∷ ps) w = (lt-ltb _ _ (mod-lt (w / 2 ^ (p .low)) (pow-pos (width p))), room-split ps w)
+pub room-unpack : (ps : List Part) (w : ℕ) → Each (room ps (unpack ps w))
+room-unpack [] w = tt
+room-unpack (p ∷ ps) w = (lt-ltb _ _ (mod-lt (w / 2 ^ (p .low)) (pow-pos (width p))), room-unpack ps w)

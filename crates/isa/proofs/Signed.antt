@@ -5,13 +5,13 @@ use mathlib.Core.Path.{_≡_, refl}
 use native.Mathlib.Nat.{add-mul-mod-self-left, mod-eq-of-lt}
 use lib.Dec.{ltb}
 use borrow.Author.Tests.{eq-eqb, eqb-true}
-use Rattle.isa.specs.Layout.{signed, cut, fits-signed}
+use Rattle.isa.specs.Layout.{signed, truncated, fits-signed}
 
 -- a sign bit that weighs h: the field's range goes k + 1 times into that of a word
 module _ (h k : ℕ) (e : 2 * h * k ≡ 2 ^ 32 - 2 * h) where
-  pub cut-signed : (n : ℕ) → n < 2 * h → cut h (signed h n) ≡ n
+  pub truncated-signed : (n : ℕ) → n < 2 * h → truncated h (signed h n) ≡ n
   unfolding signed
-  cut-signed n l = go (ltb n h)
+  truncated-signed n l = go (ltb n h)
     where
       go : (t : Bool) → cond t n (n + (2 ^ 32 - 2 * h)) % (2 * h) ≡ n
       go true = mod-eq-of-lt l
@@ -19,8 +19,8 @@ module _ (h k : ℕ) (e : 2 * h * k ≡ 2 ^ 32 - 2 * h) where
 
   pub fits-signed-field : (n : ℕ) → n < 2 * h → fits-signed h (signed h n) ≡ true
   unfolding fits-signed
-  fits-signed-field n l = rw (cut-signed n l) (eq-eqb (signed h n) (signed h n) refl)
+  fits-signed-field n l = rw (truncated-signed n l) (eq-eqb (signed h n) (signed h n) refl)
 
-pub signed-cut : (h n : ℕ) → fits-signed h n ≡ true → signed h (cut h n) ≡ n
+pub signed-truncated : (h n : ℕ) → fits-signed h n ≡ true → signed h (truncated h n) ≡ n
 unfolding fits-signed
-signed-cut h n t = eqb-true _ _ t
+signed-truncated h n t = eqb-true _ _ t

@@ -21,15 +21,15 @@ abbrev pub width : Part → ℕ
 width p = suc (p .high) - p .low
 
 -- the word's parts
-abbrev pub split : List Part → ℕ → List ℕ
-split [] w = []
-split (p ∷ ps) w = bits w (p .high) (p .low) ∷ split ps w
+abbrev pub unpack : List Part → ℕ → List ℕ
+unpack [] w = []
+unpack (p ∷ ps) w = bits w (p .high) (p .low) ∷ unpack ps w
 
 -- the word that has these numbers in its parts
-abbrev pub join : List Part → List ℕ → ℕ
-join [] vs = 0
-join (p ∷ ps) [] = 0
-join (p ∷ ps) (v ∷ vs) = v * 2 ^ (p .low) + join ps vs
+abbrev pub pack : List Part → List ℕ → ℕ
+pack [] vs = 0
+pack (p ∷ ps) [] = 0
+pack (p ∷ ps) (v ∷ vs) = v * 2 ^ (p .low) + pack ps vs
 
 -- whether each number has room in its part
 abbrev pub room : List Part → List ℕ → List Bool
@@ -66,9 +66,9 @@ unfoldable pub signed : ℕ → ℕ → ℕ
 signed h n = cond (ltb n h) n (n + (2 ^ 32 - 2 * h))
 
 -- the field of a number;
-abbrev pub cut : ℕ → ℕ → ℕ
-cut h n = n % (2 * h)
+abbrev pub truncated : ℕ → ℕ → ℕ
+truncated h n = n % (2 * h)
 
 -- and whether a number is one that such a field stands for.
 unfoldable pub fits-signed : ℕ → ℕ → Bool
-fits-signed h n = eqb (signed h (cut h n)) n
+fits-signed h n = eqb (signed h (truncated h n)) n

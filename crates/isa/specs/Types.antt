@@ -1,4 +1,4 @@
--- The types that the code declares, under one roof.
+-- The types that the code declares, in one module.
 pub use Rattle.isa.specs.declared.instruction.BinaryOp.{BinaryOp}
 pub use Rattle.isa.specs.declared.instruction.BinaryOp.the-variants.{Or, And, Xor, Add, Sub, Mullo, Mulhi, Mulhu, Ashr, Shr, Shl}
 pub use Rattle.isa.specs.declared.instruction.UnaryOp.{UnaryOp}

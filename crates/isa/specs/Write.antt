@@ -3,11 +3,11 @@ use Prim.Native.Nat.{ℕ, _^_}
 use mathlib.Core.Bool.{Bool, true, false, _&&_}
 use mathlib.Core.List.{List, [], _∷_}
 use Rattle.answer.specs.Answer.{Answer, given, refused, no-word}
-use Rattle.isa.specs.Layout.{Part, join, room, layoutR, layoutI, layoutMovei, layoutJ, layoutC, layoutM, cut, fits-signed}
+use Rattle.isa.specs.Layout.{Part, pack, room, layoutR, layoutI, layoutMovei, layoutJ, layoutC, layoutM, truncated, fits-signed}
 use Rattle.isa.specs.Rule.{allowsR, allowsI, allowsMovei, allowsJ, allowsC, allowsM}
 use Rattle.isa.specs.Table.{rowR, rowI, rowMovei, rowJ, rowC, rowM}
 use Rattle.isa.specs.Test.{all}
-use Rattle.isa.specs.Types.{Instruction, R, I, Movei, J, C, M}
+use Rattle.isa.specs.Types.{Operation, MoveiOp, JumpOp, ControlOp, MemoryOp, Instruction, R, I, Movei, J, C, M}
 
 -- the word w, where there is one
 unfoldable pub written : Bool → ℕ → Answer ℕ
@@ -15,20 +15,40 @@ written true w = given w
 written false w = refused no-word
 
 -- the word with these numbers in the layout's parts, where they have room and the instruction is allowed
-abbrev pub laidOut : Bool → List Part → List ℕ → Answer ℕ
-laidOut allowed layout numbers = written (all (allowed ∷ room layout numbers)) (join layout numbers)
+abbrev pub encoded : Bool → List Part → List ℕ → Answer ℕ
+encoded allowed layout numbers = written (all (allowed ∷ room layout numbers)) (pack layout numbers)
 
--- the word of an instruction; "Unnamed bits are 0."
+-- The word of an instruction, by format. "Unnamed bits are 0."
+
+unfoldable pub writeR : Operation → ℕ → ℕ → ℕ → ℕ → Answer ℕ
+writeR op flags d a b = encoded (allowsR op flags d b) layoutR (0b00 ∷ rowR op .opcode ∷ d ∷ a ∷ b ∷ 0 ∷ 0 ∷ flags ∷ 0 ∷ [])
+
+unfoldable pub writeI : Operation → ℕ → ℕ → ℕ → ℕ → Answer ℕ
+writeI op flags d a immediate =
+    encoded (allowsI op flags d && fits-signed (2 ^ 8) immediate) layoutI
+    (0b010 ∷ rowI op .opcode ∷ d ∷ a ∷ truncated (2 ^ 8) immediate ∷ flags ∷ 0 ∷ [])
+
+unfoldable pub writeMovei : MoveiOp → ℕ → ℕ → ℕ → Answer ℕ
+writeMovei op flag d immediate = encoded (allowsMovei flag d) layoutMovei (0b01100 ∷ rowMovei op .opcode ∷ d ∷ immediate ∷ flag ∷ 0 ∷ [])
+
+unfoldable pub writeJ : JumpOp → ℕ → ℕ → Answer ℕ
+writeJ op register offset =
+    encoded (allowsJ op register offset && fits-signed (2 ^ 17) offset) layoutJ
+    (0b01110 ∷ rowJ op .opcode ∷ register ∷ truncated (2 ^ 17) offset ∷ [])
+
+unfoldable pub writeC : ControlOp → ℕ → ℕ → Answer ℕ
+writeC op first second = encoded (allowsC op first second) layoutC (0b01111 ∷ rowC op .opcode ∷ first ∷ second ∷ 0 ∷ [])
+
+unfoldable pub writeM : MemoryOp → ℕ → ℕ → ℕ → Answer ℕ
+writeM op register base offset =
+    encoded (allowsM op register && fits-signed (2 ^ 8) offset) layoutM
+    (0b10 ∷ rowM op .opcode ∷ register ∷ base ∷ truncated (2 ^ 8) offset ∷ 0 ∷ 0 ∷ [])
+
+-- what an instruction is written as
 unfoldable pub write : Instruction → Answer ℕ
-write (R op flags d a b) = laidOut (allowsR op flags d b) layoutR (0b00 ∷ rowR op .opcode ∷ d ∷ a ∷ b ∷ 0 ∷ 0 ∷ flags ∷ 0 ∷ [])
-write (I op flags d a immediate) =
-    laidOut (allowsI op flags d && fits-signed (2 ^ 8) immediate) layoutI
-    (0b010 ∷ rowI op .opcode ∷ d ∷ a ∷ cut (2 ^ 8) immediate ∷ flags ∷ 0 ∷ [])
-write (Movei op flag d immediate) = laidOut (allowsMovei flag d) layoutMovei (0b01100 ∷ rowMovei op .opcode ∷ d ∷ immediate ∷ flag ∷ 0 ∷ [])
-write (J op register offset) =
-    laidOut (allowsJ op register offset && fits-signed (2 ^ 17) offset) layoutJ
-    (0b01110 ∷ rowJ op .opcode ∷ register ∷ cut (2 ^ 17) offset ∷ [])
-write (C op first second) = laidOut (allowsC op first second) layoutC (0b01111 ∷ rowC op .opcode ∷ first ∷ second ∷ 0 ∷ [])
-write (M op register base offset) =
-    laidOut (allowsM op register && fits-signed (2 ^ 8) offset) layoutM
-    (0b10 ∷ rowM op .opcode ∷ register ∷ base ∷ cut (2 ^ 8) offset ∷ 0 ∷ 0 ∷ [])
+write (R op flags d a b) = writeR op flags d a b
+write (I op flags d a immediate) = writeI op flags d a immediate
+write (Movei op flag d immediate) = writeMovei op flag d immediate
+write (J op register offset) = writeJ op register offset
+write (C op first second) = writeC op first second
+write (M op register base offset) = writeM op register base offset

@@ -20,5 +20,6 @@ pub use instruction::Reading;
 pub use instruction::StoreOp;
 pub use instruction::UnaryOp;
 pub use instruction::Writing;
+pub use opcode::opcode_of;
 pub use read::read_word;
 pub use write::write_word;

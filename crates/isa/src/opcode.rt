@@ -2,6 +2,7 @@
 use crate::instruction::BinaryOp;
 use crate::instruction::CompareOp;
 use crate::instruction::ControlOp;
+use crate::instruction::Instruction;
 use crate::instruction::JumpOp;
 use crate::instruction::LoadOp;
 use crate::instruction::MemoryOp;
@@ -11,7 +12,7 @@ use crate::instruction::StoreOp;
 use crate::instruction::UnaryOp;
 ghost use mathlib.Core.Path.{_≡_};
 ghost use Rattle.isa.specs.Found.{foundR, foundMovei, foundJ, foundC, foundM};
-ghost use Rattle.isa.specs.Table.{operationAt, tableR, tableMovei, tableJ, tableC, tableM, rowR, rowMovei, rowJ, rowC, rowM, not-fitted-opcodes};
+ghost use Rattle.isa.specs.Table.{operationAt, tableR, tableMovei, tableJ, tableC, tableM, rowR, rowMovei, rowJ, rowC, rowM, opcodeOf, not-fitted-opcodes};
 ghost use Rattle.isa.specs.Test.{isIn};
 ghost use Rattle.isa.specs.Types.{Binary, Unary, Compare, Load, Store};
 
@@ -271,5 +272,49 @@ fn store_opcode(op: StoreOp) -> u8
         StoreOp::Store8 => 32,
         StoreOp::Store16 => 33,
         StoreOp::Store32 => 34,
+    }
+}
+
+// The opcode of an instruction in its format's table, whether or not it has a word.
+pub fn opcode_of(i: Instruction) -> u8
+    ensures { λ r. ⌜ r ≡ opcodeOf i ⌝ }
+{
+    match i {
+        Instruction::R {
+            op,
+            flags: _,
+            d: _,
+            a: _,
+            b: _,
+        } => r_opcode(op),
+        Instruction::I {
+            op,
+            flags: _,
+            d: _,
+            a: _,
+            immediate: _,
+        } => r_opcode(op),
+        Instruction::Movei {
+            op,
+            flag: _,
+            d: _,
+            immediate: _,
+        } => movei_opcode(op),
+        Instruction::J {
+            op,
+            register: _,
+            offset: _,
+        } => j_opcode(op),
+        Instruction::C {
+            op,
+            first: _,
+            second: _,
+        } => c_opcode(op),
+        Instruction::M {
+            op,
+            register: _,
+            base: _,
+            offset: _,
+        } => m_opcode(op),
     }
 }

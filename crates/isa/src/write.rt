@@ -12,11 +12,10 @@ use crate::pack;
 use crate::rule;
 ghost use mathlib.Core.Path.{_≡_};
 ghost use Rattle.isa.specs.Answer.{writing};
-ghost use Rattle.isa.specs.Types.{R, I, Movei, J, C, M};
-ghost use Rattle.isa.specs.Write.{write};
+ghost use Rattle.isa.specs.Write.{writeR, writeI, writeMovei, writeJ, writeC, writeM, write};
 
 fn write_r(op: Operation, flags: u32, d: u32, a: u32, b: u32) -> Writing
-    ensures { λ r. ⌜ writing r ≡ write (R op flags d a b) ⌝ }
+    ensures { λ r. ⌜ writing r ≡ writeR op flags d a b ⌝ }
 {
     let opcode = opcode::r_opcode(op);
     if rule::r_allows(op, flags, d, b)
@@ -33,7 +32,7 @@ fn write_r(op: Operation, flags: u32, d: u32, a: u32, b: u32) -> Writing
 }
 
 fn write_i(op: Operation, flags: u32, d: u32, a: u32, immediate: u32) -> Writing
-    ensures { λ r. ⌜ writing r ≡ write (I op flags d a immediate) ⌝ }
+    ensures { λ r. ⌜ writing r ≡ writeI op flags d a immediate ⌝ }
 {
     let opcode = opcode::r_opcode(op);
     if rule::i_allows(op, flags, d)
@@ -50,7 +49,7 @@ fn write_i(op: Operation, flags: u32, d: u32, a: u32, immediate: u32) -> Writing
 }
 
 fn write_movei(op: MoveiOp, flag: u32, d: u32, immediate: u32) -> Writing
-    ensures { λ r. ⌜ writing r ≡ write (Movei op flag d immediate) ⌝ }
+    ensures { λ r. ⌜ writing r ≡ writeMovei op flag d immediate ⌝ }
 {
     let opcode = opcode::movei_opcode(op);
     if rule::movei_allows(flag, d) & (opcode < 8) & (d < 64) & (immediate < 65536) & (flag < 2) {
@@ -61,7 +60,7 @@ fn write_movei(op: MoveiOp, flag: u32, d: u32, immediate: u32) -> Writing
 }
 
 fn write_j(op: JumpOp, register: u32, offset: u32) -> Writing
-    ensures { λ r. ⌜ writing r ≡ write (J op register offset) ⌝ }
+    ensures { λ r. ⌜ writing r ≡ writeJ op register offset ⌝ }
 {
     let opcode = opcode::j_opcode(op);
     if rule::j_allows(op, register, offset)
@@ -76,7 +75,7 @@ fn write_j(op: JumpOp, register: u32, offset: u32) -> Writing
 }
 
 fn write_c(op: ControlOp, first: u32, second: u32) -> Writing
-    ensures { λ r. ⌜ writing r ≡ write (C op first second) ⌝ }
+    ensures { λ r. ⌜ writing r ≡ writeC op first second ⌝ }
 {
     let opcode = opcode::c_opcode(op);
     if rule::c_allows(op, first, second) & (opcode < 8) & (first < 64) & (second < 64) {
@@ -87,7 +86,7 @@ fn write_c(op: ControlOp, first: u32, second: u32) -> Writing
 }
 
 fn write_m(op: MemoryOp, register: u32, base: u32, offset: u32) -> Writing
-    ensures { λ r. ⌜ writing r ≡ write (M op register base offset) ⌝ }
+    ensures { λ r. ⌜ writing r ≡ writeM op register base offset ⌝ }
 {
     let opcode = opcode::m_opcode(op);
     if rule::m_allows(op, register)

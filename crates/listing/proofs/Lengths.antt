@@ -63,10 +63,10 @@ length-header n small =
 -- a name as the code holds it: its bytes are the text
 module _ (r : Name) (t : List ℕ) (e : r ≡ spelled t) where
   pub name-room : r .len ≤ length (r .bytes)
-  name-room = rw e (padded-room 8 t (length t) refl)
+  name-room = rw e (padded-room 16 t (length t) refl)
 
   pub name-taken : take (r .len) (r .bytes) ≡ t
-  name-taken = rw e (take-padded 8 t (length t) refl)
+  name-taken = rw e (take-padded 16 t (length t) refl)
 
   pub name-count : r .len ≡ length (take (r .len) (r .bytes))
   name-count = rw (name-taken, e)

@@ -1,47 +1,134 @@
--- Names: a name of R has room for one letter more, and is the longer name's beginning.
+-- Names: an operation's name stands in the table's row of its opcode, no name is longer than eight bytes, and one of R has a letter's room.
 use Prim.Native.Nat.{ℕ, suc, _+_, _-_, _<_, _≤_}
+use mathlib.Core.Bool.{Bool, true, false, _&&_}
 use mathlib.Core.List.{List, [], _∷_, _++_, append-assoc}
-use mathlib.Core.Path.{_≡_}
+use mathlib.Core.Option.{some}
+use mathlib.Core.Path.{_≡_, refl, ap, subst, _∙_}
 use native.Mathlib.Omega.{arith}
-use lib.Dec.{lit<, lit≤}
-use lib.ListN.{length, replicate, set, length-append}
-use lib.Seq.{set-append-seam}
-use Rattle.names.specs.Name.{nameOf, padded, spelled, extended}
-use Rattle.isa.specs.Table.{rowR}
+use borrow.Author.Tests.{eq-eqb, ltb-true}
+use lib.Dec.{eqb, ltb}
+use lib.ListN.{length, replicate, set, getD, drop, length-append}
+use lib.Seq.{set-append-seam, drop-cons}
+use Rattle.isa.proofs.Both.{and-left, and-right}
+use Rattle.isa.proofs.Tables.{Finds, finds-R, finds-Movei, finds-J, finds-C, finds-M}
+use Rattle.isa.specs.Table.{Row, Table, find, tableR, tableMovei, tableJ, tableC, tableM, rowR, rowMovei, rowJ, rowC, rowM}
 use Rattle.isa.specs.Text.{bytes}
-use Rattle.names.specs.Types.{Operation, Or, And, Xor, Add, Sub, Mullo, Mulhi, Mulhu, Ashr, Shr, Shl, Clz, Ctz, Move, Sext8, Sext16, Eq, Ne, Gt, Ge, Lt, Le, Ugt, Uge, Ult, Ule, Binary, Unary, Compare, Shuffle, GetLane}
-use Rattle.names.specs.Types.{Low, High, Whole, Jmp, Jmpsr, Jret, Beqz, Bnez, Barrier, Readcr, End, Load8, Load16, Load32, Load8u, Load16u, Store8, Store16, Store32, Load, Store, LoadVector, StoreVector, Instruction, R, I, Movei, J, C, M}
+use Rattle.isa.specs.declared.instruction.Instruction.{Instruction}
+use Rattle.isa.specs.declared.instruction.Instruction.the-variants.{R, I, Movei, J, C, M}
+use Rattle.isa.specs.declared.instruction.Operation.{Operation}
+use Rattle.isa.specs.declared.instruction.MoveiOp.{MoveiOp}
+use Rattle.isa.specs.declared.instruction.JumpOp.{JumpOp}
+use Rattle.isa.specs.declared.instruction.ControlOp.{ControlOp}
+use Rattle.isa.specs.declared.instruction.MemoryOp.{MemoryOp}
+use Rattle.names.specs.Name.{nameOf, padded, spelled, extended}
+use Rattle.names.specs.Rows.{rowsFor, rows, named}
+use Rattle.names.specs.declared.name.Row as names
 
+-- rows of another format are passed over
+skip : {A : Type 0} (g f o : ℕ) (t : Table A) (ops : List A) (rest : List names.Row) → eqb f g ≡ false →
+    named (rowsFor g t ops ++ rest) f o ≡ named rest f o
+unfolding named
+skip g f o t [] rest e = refl
+skip g f o t (x ∷ xs) rest e = rw e (skip g f o t xs rest e)
+
+-- the operation that an opcode finds has its name in the row found
+hit : {A : Type 0} (f o : ℕ) (t : Table A) (ops : List A) (rest : List names.Row) (op : A) → find (t .rowOf) ops o ≡ some op →
+    named (rowsFor f t ops ++ rest) f o ≡ spelled (t .rowOf op .name)
+unfolding named find
+hit f o t [] rest op e = let z : _≡_ {A = ℕ} 0 1 = cc in absurd (omega arith)
+hit {A} f o t (x ∷ xs) rest op e = by (eqb o (t .rowOf x .opcode)) refl e (hit f o t xs rest op)
+  where
+    by : (b : Bool) → eqb o (t .rowOf x .opcode) ≡ b → elim b [ true ↦ some x | false ↦ find (t .rowOf) xs o ] ≡ some op →
+        (find (t .rowOf) xs o ≡ some op → named (rowsFor f t xs ++ rest) f o ≡ spelled (t .rowOf op .name)) →
+        named (rowsFor f t (x ∷ xs) ++ rest) f o ≡ spelled (t .rowOf op .name)
+    by true h g later = let s : x ≡ op = cc in rw (eq-eqb f f refl, h) (ap (λ (y : A). spelled (t .rowOf y .name)) s)
+    by false h g later = rw (eq-eqb f f refl, h) (later g)
+
+-- the row at a place: its name, where it is of the format and the opcode; else the rows behind it
+module _ (rs : List names.Row) (f o k : ℕ) (h : k < length rs) where
+  abbrev row : names.Row
+  row = getD rs k (0, 0, 0, [])
+
+  pub here : (eqb f (row .0) && eqb o (row .1)) ≡ true → named (drop k rs) f o ≡ record { bytes = row .3; len = row .2 }
+  unfolding named
+  here e = rw (drop-cons rs k (0, 0, 0, []) h, e)
+
+  pub behind : (eqb f (row .0) && eqb o (row .1)) ≡ false → named (drop k rs) f o ≡ named (drop (suc k) rs) f o
+  unfolding named
+  behind e = rw (drop-cons rs k (0, 0, 0, []) h, e)
+
+-- the table has a row for each operation
+pub count : length rows ≡ 49
+unfolding rows
+count = refl
+
+-- so each operation has its name in the row of its opcode
+pub of-R : (op : Operation) → named rows 0 (rowR op .opcode) ≡ spelled (rowR op .name)
+unfolding rows
+of-R op = hit 0 (rowR op .opcode) tableR (tableR .operations) _ op (finds-R op)
+
+pub of-Movei : (op : MoveiOp) → named rows 2 (rowMovei op .opcode) ≡ spelled (rowMovei op .name)
+unfolding rows
+of-Movei op =
+    skip 0 2 _ tableR (tableR .operations) _ refl
+    ∙ hit 2 (rowMovei op .opcode) tableMovei (tableMovei .operations) _ op (finds-Movei op)
+
+pub of-J : (op : JumpOp) → named rows 3 (rowJ op .opcode) ≡ spelled (rowJ op .name)
+unfolding rows
+of-J op =
+    skip 0 3 _ tableR (tableR .operations) _ refl
+    ∙ skip 2 3 _ tableMovei (tableMovei .operations) _ refl
+    ∙ hit 3 (rowJ op .opcode) tableJ (tableJ .operations) _ op (finds-J op)
+
+pub of-C : (op : ControlOp) → named rows 4 (rowC op .opcode) ≡ spelled (rowC op .name)
+unfolding rows
+of-C op =
+    skip 0 4 _ tableR (tableR .operations) _ refl
+    ∙ skip 2 4 _ tableMovei (tableMovei .operations) _ refl
+    ∙ skip 3 4 _ tableJ (tableJ .operations) _ refl
+    ∙ hit 4 (rowC op .opcode) tableC (tableC .operations) _ op (finds-C op)
+
+pub of-M : (op : MemoryOp) → named rows 5 (rowM op .opcode) ≡ spelled (rowM op .name)
+unfolding rows
+of-M op =
+    skip 0 5 _ tableR (tableR .operations) _ refl
+    ∙ skip 2 5 _ tableMovei (tableMovei .operations) _ refl
+    ∙ skip 3 5 _ tableJ (tableJ .operations) _ refl
+    ∙ skip 4 5 _ tableC (tableC .operations) _ refl
+    ∙ hit 5 (rowM op .opcode) tableM (tableM .operations) [] op (finds-M op)
+
+-- a test that every operation of a table passes holds of each that an opcode finds
+every : {A : Type 0} → (A → Bool) → List A → Bool
+every p [] = true
+every p (op ∷ ops) = p op && every p ops
+
+passes : {A : Type 0} (p : A → Bool) (rowOf : A → Row) (ops : List A) (o : ℕ) (op : A) → every p ops ≡ true → find rowOf ops o ≡ some op → p op ≡ true
+unfolding every find
+passes p rowOf [] o op t e = let z : _≡_ {A = ℕ} 0 1 = cc in absurd (omega arith)
+passes {A} p rowOf (x ∷ xs) o op t e =
+    by (eqb o (rowOf x .opcode)) e (and-left (p x) (every p xs) t) (passes p rowOf xs o op (and-right (p x) (every p xs) t))
+  where
+    by : (b : Bool) → elim b [ true ↦ some x | false ↦ find rowOf xs o ] ≡ some op → p x ≡ true → (find rowOf xs o ≡ some op → p op ≡ true) → p op ≡ true
+    by true g first later = let s : x ≡ op = cc in subst (λ (y : A). p y ≡ true) s first
+    by false g first later = later g
+
+module _ {A : Type 0} (t : Table A) (finds : Finds t) (n : ℕ) where
+  below : (op : A) → every (λ op. ltb (length (t .rowOf op .name)) n) (t .operations) ≡ true → length (t .rowOf op .name) < n
+  below op e = ltb-true _ _ (passes (λ op. ltb (length (t .rowOf op .name)) n) (t .rowOf) (t .operations) _ op e (finds op))
+
+-- no name of R is longer than seven bytes, and no other than eight
 pub short : (op : Operation) → length (rowR op .name) < 8
-unfolding bytes
-short (Binary Or) = lit< tt
-short (Binary And) = lit< tt
-short (Binary Xor) = lit< tt
-short (Binary Add) = lit< tt
-short (Binary Sub) = lit< tt
-short (Binary Mullo) = lit< tt
-short (Binary Mulhi) = lit< tt
-short (Binary Mulhu) = lit< tt
-short (Binary Ashr) = lit< tt
-short (Binary Shr) = lit< tt
-short (Binary Shl) = lit< tt
-short (Unary Clz) = lit< tt
-short (Unary Ctz) = lit< tt
-short (Unary Move) = lit< tt
-short (Unary Sext8) = lit< tt
-short (Unary Sext16) = lit< tt
-short (Compare Eq) = lit< tt
-short (Compare Ne) = lit< tt
-short (Compare Gt) = lit< tt
-short (Compare Ge) = lit< tt
-short (Compare Lt) = lit< tt
-short (Compare Le) = lit< tt
-short (Compare Ugt) = lit< tt
-short (Compare Uge) = lit< tt
-short (Compare Ult) = lit< tt
-short (Compare Ule) = lit< tt
-short Shuffle = lit< tt
-short GetLane = lit< tt
+unfolding every bytes
+short op = below tableR finds-R 8 op refl
+
+pub fits : (i : Instruction) → length (nameOf i) ≤ 8
+unfolding every bytes
+fits (R op flags d a b) = let h = short op in omega arith
+fits (I op flags d a immediate) = let h = short op in rw (length-append (rowR op .name) (105 ∷ [])) (omega arith)
+fits (Movei op flag d immediate) = let h = below tableMovei finds-Movei 9 op refl in omega arith
+fits (J op register offset) = let h = below tableJ finds-J 9 op refl in omega arith
+fits (C op first second) = let h = below tableC finds-C 9 op refl in omega arith
+fits (M op register base offset) = let h = below tableM finds-M 9 op refl in omega arith
 
 -- a byte put right behind a padded text makes it longer
 pub one-more : (n : ℕ) (t : List ℕ) (b : ℕ) → length t < n → set (padded n t) (length t) b ≡ padded n (t ++ b ∷ [])
@@ -49,32 +136,5 @@ one-more n t b h =
     let m : n - length t ≡ suc (n - (length t + 1)) = omega arith in
     rw (m, set-append-seam t 0 (replicate (n - (length t + 1)) 0) b, length-append t (b ∷ []), append-assoc t (b ∷ []) (replicate (n - (length t + 1)) 0))
 
-pub name-one-more : (t : List ℕ) (b : ℕ) → length t < 8 → extended (spelled t) b ≡ spelled (t ++ b ∷ [])
-name-one-more t b h = rw (one-more 8 t b h, length-append t (b ∷ []))
-
--- every name has room
-pub fits : (i : Instruction) → length (nameOf i) ≤ 8
-unfolding bytes
-fits (R op flags d a b) = let h = short op in omega arith
-fits (I op flags d a immediate) = let h = short op in rw (length-append (rowR op .name) (105 ∷ [])) (omega arith)
-fits (Movei Low flag d immediate) = lit≤ tt
-fits (Movei High flag d immediate) = lit≤ tt
-fits (Movei Whole flag d immediate) = lit≤ tt
-fits (J Jmp register offset) = lit≤ tt
-fits (J Jmpsr register offset) = lit≤ tt
-fits (J Jret register offset) = lit≤ tt
-fits (J Beqz register offset) = lit≤ tt
-fits (J Bnez register offset) = lit≤ tt
-fits (C Barrier first second) = lit≤ tt
-fits (C Readcr first second) = lit≤ tt
-fits (C End first second) = lit≤ tt
-fits (M (Load Load8) register base offset) = lit≤ tt
-fits (M (Load Load16) register base offset) = lit≤ tt
-fits (M (Load Load32) register base offset) = lit≤ tt
-fits (M (Load Load8u) register base offset) = lit≤ tt
-fits (M (Load Load16u) register base offset) = lit≤ tt
-fits (M LoadVector register base offset) = lit≤ tt
-fits (M (Store Store8) register base offset) = lit≤ tt
-fits (M (Store Store16) register base offset) = lit≤ tt
-fits (M (Store Store32) register base offset) = lit≤ tt
-fits (M StoreVector register base offset) = lit≤ tt
+pub name-one-more : (t : List ℕ) (b : ℕ) → length t < 16 → extended (spelled t) b ≡ spelled (t ++ b ∷ [])
+name-one-more t b h = rw (one-more 16 t b h, length-append t (b ∷ []))

@@ -1,3 +1,3 @@
 -- The names of instructions: what the contracts cite.
-pub mod Types
 pub mod Name
+pub mod Rows

@@ -3,7 +3,8 @@ use Prim.Native.Nat.{ℕ, _+_, _-_}
 use mathlib.Core.List.{List, _++_}
 use lib.ListN.{length, replicate, set}
 use Rattle.isa.specs.Table.{rowR, rowI, rowMovei, rowJ, rowC, rowM}
-use Rattle.names.specs.Types.{Instruction, R, I, Movei, J, C, M}
+use Rattle.isa.specs.declared.instruction.Instruction.{Instruction}
+use Rattle.isa.specs.declared.instruction.Instruction.the-variants.{R, I, Movei, J, C, M}
 use Rattle.names.specs.declared.name.Name.{Name}
 
 -- the name of an instruction, as bytes
@@ -19,9 +20,9 @@ nameOf (M op register base offset) = rowM op .name
 abbrev pub padded : ℕ → List ℕ → List ℕ
 padded n t = t ++ replicate (n - length t) 0
 
--- a text of at most 8 bytes as the code's `Name`: zeros after it
+-- a text of at most 16 bytes as the code's `Name`: zeros after it
 abbrev pub spelled : List ℕ → Name
-spelled t = record { bytes = padded 8 t; len = length t }
+spelled t = record { bytes = padded 16 t; len = length t }
 
 -- a name with a byte more
 abbrev pub extended : Name → ℕ → Name

@@ -14,7 +14,7 @@ unfolding readWord Numbered
 returns c =
     let d = ap reading (c .before .before .before .enum-told .given .1) in
     let r = sym (c .before .before .before .before .before .read-word .ensures) ∙ d in
-    rw r (ap (left 0) (c .put-numbers .ensures ∙ ap listOf (c .before .before .split .ensures ∙ numbered _ _ (search needs) r)))
+    rw r (ap (left 0) (c .put-numbers .ensures ∙ ap listOf (c .before .before .unpack .ensures ∙ numbered _ _ (search needs) r)))
 
 pub korvammel-read-word-spec : {M : Type 1} → statement M
 unfolding readWord

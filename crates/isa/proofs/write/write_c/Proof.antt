@@ -9,7 +9,7 @@ use Rattle.isa.proofs.Room.{word, none-written}
 use Rattle.isa.proofs.write.write_c.Statement.{statement}
 use Rattle.isa.proofs.write.write_c.Tie as tie
 use Rattle.isa.specs.Test.{all}
-use Rattle.isa.specs.Write.{write}
+use Rattle.isa.specs.Write.{writeC}
 
 c-requires : tie.Need-c-requires
 unfolding all
@@ -19,7 +19,7 @@ c-requires c κs =
     (ltb-true _ _ (h .1 .0), ltb-true _ _ (h .1 .1 .0), ltb-true _ _ (h .1 .1 .1 .0))
 
 pub write-c-spec : {M : Type 1} → statement M
-unfolding write
+unfolding writeC
 write-c-spec =
     tie.close
     (tie.spec

@@ -11,7 +11,7 @@ use Rattle.isa.proofs.Room.{word, none-written}
 use Rattle.isa.proofs.write.write_i.Statement.{statement}
 use Rattle.isa.proofs.write.write_i.Tie as tie
 use Rattle.isa.specs.Test.{all}
-use Rattle.isa.specs.Write.{write}
+use Rattle.isa.specs.Write.{writeI}
 
 i-requires : tie.Need-i-requires
 unfolding all
@@ -21,7 +21,7 @@ i-requires c κs =
     (ltb-true _ _ (h .1 .1 .0), ltb-true _ _ (h .1 .1 .1 .0), ltb-true _ _ (h .1 .1 .1 .1 .0), omega arith, ltb-true _ _ (h .1 .1 .1 .1 .1 .0))
 
 pub write-i-spec : {M : Type 1} → statement M
-unfolding write
+unfolding writeI
 write-i-spec =
     tie.close
     (tie.spec

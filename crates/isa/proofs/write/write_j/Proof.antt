@@ -11,7 +11,7 @@ use Rattle.isa.proofs.Room.{word, none-written}
 use Rattle.isa.proofs.write.write_j.Statement.{statement}
 use Rattle.isa.proofs.write.write_j.Tie as tie
 use Rattle.isa.specs.Test.{all}
-use Rattle.isa.specs.Write.{write}
+use Rattle.isa.specs.Write.{writeJ}
 
 j-requires : tie.Need-j-requires
 unfolding all
@@ -21,7 +21,7 @@ j-requires c κs =
     (ltb-true _ _ (h .1 .1 .0), ltb-true _ _ (h .1 .1 .1 .0), omega arith)
 
 pub write-j-spec : {M : Type 1} → statement M
-unfolding write
+unfolding writeJ
 write-j-spec =
     tie.close
     (tie.spec

@@ -11,7 +11,7 @@ use Rattle.isa.proofs.Room.{word, none-written}
 use Rattle.isa.proofs.write.write_m.Statement.{statement}
 use Rattle.isa.proofs.write.write_m.Tie as tie
 use Rattle.isa.specs.Test.{all}
-use Rattle.isa.specs.Write.{write}
+use Rattle.isa.specs.Write.{writeM}
 
 m-requires : tie.Need-m-requires
 unfolding all
@@ -21,7 +21,7 @@ m-requires c κs =
     (ltb-true _ _ (h .1 .1 .0), ltb-true _ _ (h .1 .1 .1 .0), ltb-true _ _ (h .1 .1 .1 .1 .0), omega arith)
 
 pub write-m-spec : {M : Type 1} → statement M
-unfolding write
+unfolding writeM
 write-m-spec =
     tie.close
     (tie.spec

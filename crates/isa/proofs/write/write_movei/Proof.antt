@@ -9,7 +9,7 @@ use Rattle.isa.proofs.Room.{word, none-written}
 use Rattle.isa.proofs.write.write_movei.Statement.{statement}
 use Rattle.isa.proofs.write.write_movei.Tie as tie
 use Rattle.isa.specs.Test.{all}
-use Rattle.isa.specs.Write.{write}
+use Rattle.isa.specs.Write.{writeMovei}
 
 movei-requires : tie.Need-movei-requires
 unfolding all
@@ -19,7 +19,7 @@ movei-requires c κs =
     (ltb-true _ _ (h .1 .0), ltb-true _ _ (h .1 .1 .0), ltb-true _ _ (h .1 .1 .1 .0), ltb-true _ _ (h .1 .1 .1 .1 .0))
 
 pub write-movei-spec : {M : Type 1} → statement M
-unfolding write
+unfolding writeMovei
 write-movei-spec =
     tie.close
     (tie.spec

@@ -9,7 +9,7 @@ use Rattle.isa.proofs.Room.{word, none-written}
 use Rattle.isa.proofs.write.write_r.Statement.{statement}
 use Rattle.isa.proofs.write.write_r.Tie as tie
 use Rattle.isa.specs.Test.{all}
-use Rattle.isa.specs.Write.{write}
+use Rattle.isa.specs.Write.{writeR}
 
 r-requires : tie.Need-r-requires
 unfolding all
@@ -19,7 +19,7 @@ r-requires c κs =
     (ltb-true _ _ (h .1 .0), ltb-true _ _ (h .1 .1 .0), ltb-true _ _ (h .1 .1 .1 .0), ltb-true _ _ (h .1 .1 .1 .1 .0), ltb-true _ _ (h .1 .1 .1 .1 .1 .0))
 
 pub write-r-spec : {M : Type 1} → statement M
-unfolding write
+unfolding writeR
 write-r-spec =
     tie.close
     (tie.spec

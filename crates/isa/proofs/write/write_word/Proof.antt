@@ -6,6 +6,7 @@ use Rattle.isa.proofs.write.write_word.Tie as tie
 use Rattle.isa.specs.Write.{write}
 
 pub write-word-spec : {M : Type 1} → statement M
+unfolding write
 write-word-spec =
     tie.close
     (tie.spec

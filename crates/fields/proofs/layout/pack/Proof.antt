@@ -1,14 +1,14 @@
--- `join` meets its contract: by the format.
+-- `pack` meets its contract: by the format.
 use native.Mathlib.Omega.{arith}
 use borrow.Author.Needs.{needs}
 use borrow.Author.Tests.{ne-eqb}
 use Rattle.fields.specs.Numbers.{wordOf}
-use Rattle.fields.proofs.layout.join.Statement.{statement}
-use Rattle.fields.proofs.layout.join.Tie as tie
+use Rattle.fields.proofs.layout.pack.Statement.{statement}
+use Rattle.fields.proofs.layout.pack.Tie as tie
 
-pub join-spec : {M : Type 1} → statement M
+pub pack-spec : {M : Type 1} → statement M
 unfolding wordOf
-join-spec =
+pack-spec =
     tie.close
     (tie.spec
     (λ c. search needs)
