@@ -1,11 +1,10 @@
 // The operations of R and I: register d from operands a and b.
 ghost use mathlib.Core.Path.{_≡_};
-ghost use mathlib.Core.Bool.{cond, false};
+ghost use mathlib.Core.Bool.{cond};
 ghost use Prim.Native.Nat.{_<_};
 ghost use Rattle.execution.specs.Operand.{Named};
 ghost use Rattle.execution.specs.Operation.{binaryInto, unaryInto, compareInto, shuffleInto, getLaneInto, operate, operateR, operateI};
 ghost use Rattle.execution.specs.Registers.{InRoom};
-ghost use Rattle.execution.specs.Types.{Scalar};
 use crate::operand;
 use crate::operand::Source;
 use crate::registers;
@@ -99,33 +98,13 @@ fn operate(room: &mut [u32], t: usize, op: Operation, flag: bool, d: u32, a: Sou
     }
 }
 
-// The same for scalars alone, which most instructions are on: no operand is told from a vector, and no lane is looked at.
-fn operate_scalars(room: &mut [u32], t: usize, op: Operation, d: u32, x: u32, y: u32)
-    requires { ⌜ InRoom (now room) t × (d < 64) ⌝ }
-    ensures { λ _. ⌜ now (room .exit) ≡ operate (now (room .entry)) t op false d (Scalar x) (Scalar y) ⌝ }
-{
-    match op {
-        Operation::Binary(o) => registers::set_scalar(room, t, d, alu::binary(o, x, y)),
-        Operation::Unary(o) => registers::set_scalar(room, t, d, alu::unary(o, x)),
-        Operation::Compare(o) => registers::set_scalar(room, t, d, number(alu::compare(o, x, y))),
-        Operation::Shuffle => shuffle(room, t, d, Source::Scalar(x), Source::Scalar(y)),
-        Operation::GetLane => get_lane(room, t, d, Source::Scalar(x), Source::Scalar(y)),
-    }
-}
-
 pub fn operate_r(room: &mut [u32], t: usize, op: Operation, flags: u32, d: u32, a: u32, b: u32)
     requires { ⌜ InRoom (now room) t × (d < 64) × (a < 64) × (b < 64) ⌝ }
     ensures { λ _. ⌜ now (room .exit) ≡ operateR (now (room .entry)) t op flags d a b ⌝ }
 {
-    if flags == 0 {
-        let x = registers::scalar(room, t, a);
-        let y = registers::scalar(room, t, b);
-        operate_scalars(room, t, op, d, x, y);
-    } else {
-        let x = operand::select(room, t, vector::is_on(flags, 1), a);
-        let y = operand::select(room, t, vector::is_on(flags, 0), b);
-        operate(room, t, op, vector::is_on(flags, 2), d, x, y);
-    }
+    let x = operand::select(room, t, vector::is_on(flags, 1), a);
+    let y = operand::select(room, t, vector::is_on(flags, 0), b);
+    operate(room, t, op, vector::is_on(flags, 2), d, x, y);
 }
 
 pub fn operate_i(
@@ -140,19 +119,14 @@ pub fn operate_i(
     requires { ⌜ InRoom (now room) t × (d < 64) × (a < 64) ⌝ }
     ensures { λ _. ⌜ now (room .exit) ≡ operateI (now (room .entry)) t op flags d a immediate ⌝ }
 {
-    if flags == 0 {
-        let x = registers::scalar(room, t, a);
-        operate_scalars(room, t, op, d, x, immediate);
-    } else {
-        let x = operand::select(room, t, vector::is_on(flags, 0), a);
-        operate(
-            room,
-            t,
-            op,
-            vector::is_on(flags, 1),
-            d,
-            x,
-            Source::Scalar(immediate),
-        );
-    }
+    let x = operand::select(room, t, vector::is_on(flags, 0), a);
+    operate(
+        room,
+        t,
+        op,
+        vector::is_on(flags, 1),
+        d,
+        x,
+        Source::Scalar(immediate),
+    );
 }

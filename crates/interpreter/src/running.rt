@@ -108,7 +108,7 @@ fn make_stretch(
                         running: true,
                     };
                 }
-                let issued = execution::issue(program, registers, memory, next, thread);
+                let issued = fast_path::issue(program, registers, memory, next, thread);
                 let after = issued.machine;
                 let changed = issued.changed;
                 made += 1;

@@ -1,11 +1,17 @@
--- `operation::operate_i` meets its contract: by whether all operands are scalars.
-use Rattle.execution.specs.Operation.{operateI}
+-- `operation::operate_i` meets its contract.
 use borrow.Author.Needs.{needs}
+use Rattle.execution.specs.Operation.{operateI}
 use Rattle.execution.proofs.operation.operate_i.Statement.{statement}
 use Rattle.execution.proofs.operation.operate_i.Tie as tie
 
-pub operate-i-spec : {M : Type 1} → statement M
+returns : tie.Need-returns
 unfolding operateI
+returns c =
+    let second = c .before .before .before in
+    let first = second .before .before .before in
+    rw (c .before .before .operate .ensures, second .is-on2 .ensures, second .before .before .select .ensures .0, first .is-on .ensures)
+
+pub operate-i-spec : {M : Type 1} → statement M
 operate-i-spec =
     tie.close
     (tie.spec
@@ -13,9 +19,5 @@ operate-i-spec =
     (λ c κs. search needs)
     (λ c κs. search needs)
     (λ c κs. search needs)
-    (λ c κs. search needs)
-    (λ c κs. search needs)
     (λ c. search needs)
-    (λ c. rw (c .before .before .before .before .before .before .if1 .taken, c .before .before .operate-scalars .ensures, c .before .before .before .before .scalar .ensures))
-    (λ c. search needs)
-    (λ c. rw (c .before .before .operate .ensures, c .before .before .before .is-on2 .ensures, c .before .before .before .before .before .select .ensures .0, c .before .before .before .before .before .before .is-on .ensures)))
+    returns)

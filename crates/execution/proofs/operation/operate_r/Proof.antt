@@ -1,11 +1,25 @@
--- `operation::operate_r` meets its contract: by whether all operands are scalars.
-use Rattle.execution.specs.Operation.{operateR}
+-- `operation::operate_r` meets its contract.
 use borrow.Author.Needs.{needs}
+use Rattle.execution.specs.Operation.{operateR}
 use Rattle.execution.proofs.operation.operate_r.Statement.{statement}
 use Rattle.execution.proofs.operation.operate_r.Tie as tie
 
-pub operate-r-spec : {M : Type 1} → statement M
+returns : tie.Need-returns
 unfolding operateR
+returns c =
+    let third = c .before .before .before in
+    let second = third .before .before .before in
+    let first = second .before .before .before in
+    rw (
+      c .before .before .operate .ensures,
+      third .is-on3 .ensures,
+      third .before .before .select2 .ensures .0,
+      second .is-on2 .ensures,
+      second .before .before .select .ensures .0,
+      first .is-on .ensures,
+    )
+
+pub operate-r-spec : {M : Type 1} → statement M
 operate-r-spec =
     tie.close
     (tie.spec
@@ -15,10 +29,5 @@ operate-r-spec =
     (λ c κs. search needs)
     (λ c κs. search needs)
     (λ c κs. search needs)
-    (λ c κs. search needs)
-    (λ c κs. search needs)
-    (λ c κs. search needs)
     (λ c. search needs)
-    (λ c. rw (c .before .before .before .before .before .before .before .before .if1 .taken, c .before .before .operate-scalars .ensures, c .before .before .before .before .scalar2 .ensures, c .before .before .before .before .before .before .scalar .ensures))
-    (λ c. search needs)
-    (λ c. rw (c .before .before .operate .ensures, c .before .before .before .is-on3 .ensures, c .before .before .before .before .before .select2 .ensures .0, c .before .before .before .before .before .before .is-on2 .ensures, c .before .before .before .before .before .before .before .before .select .ensures .0, c .before .before .before .before .before .before .before .before .before .is-on .ensures)))
+    returns)

@@ -1,0 +1,147 @@
+-- What a word of scalars alone does: one law a family.
+use Prim.Native.Nat.{ℕ, _%_, _^_}
+use mathlib.Core.Bool.{true, cond}
+use mathlib.Core.List.{List}
+use mathlib.Core.Path.{_≡_, refl, sym, ap, _∙_}
+use native.Mathlib.Omega.{arith}
+use borrow.Author.Tests.{eq-eqb}
+use Rattle.alu.specs.Binary.{binary}
+use Rattle.alu.specs.Compare.{compare}
+use Rattle.alu.specs.Unary.{unary}
+use Rattle.isa.proofs.Both.{and-both}
+use Rattle.isa.specs.Layout.{bits, signed}
+use Rattle.isa.specs.Rule.{flagsUnary, allowsJ, allowsM}
+use Rattle.isa.specs.Test.{isIn}
+use Rattle.isa.specs.Table.{rowR, rowMovei, rowJ, rowM}
+use Rattle.execution.specs.Access.{access, loadInto, storeFrom}
+use Rattle.execution.specs.Effect.{executed, beside, advanced}
+use Rattle.execution.specs.Immediate.{replaced, moveImmediate}
+use Rattle.execution.specs.Issue.{executeWord}
+use Rattle.execution.specs.Jump.{jump}
+use Rattle.execution.specs.Operation.{binaryInto, unaryInto, compareInto, operateR, operateI}
+use Rattle.execution.specs.Registers.{scalar}
+use Rattle.memory.specs.Attempt.{Attempt, done, trap}
+use Rattle.memory.specs.Operation.{load, store, Outcome, outcome, changed, scalarPlace, bytesStored}
+use Rattle.memory.specs.Bytes.{withNumber}
+use Rattle.memory.specs.declared.outcome.Access.the-variants.{Done}
+use Rattle.fast_path.proofs.Words.{free-register, plain-R, plain-I, plain-Movei, plain-J, plain-M}
+use Rattle.fast_path.specs.Action.{HasOpcode, ActsOn, ActsAnywhere}
+use Rattle.fast_path.specs.Types.{
+  Write,
+  Binary,
+  BinaryOp,
+  Unary,
+  UnaryOp,
+  Clz,
+  Ctz,
+  Move,
+  Sext8,
+  Sext16,
+  Compare,
+  CompareOp,
+  MoveiOp,
+  JumpOp,
+  MemoryOp,
+  Load,
+  LoadOp,
+  Store,
+  StoreOp,
+  Stays,
+}
+
+-- every operation of one operand has a form on scalars
+plain-flags : (op : UnaryOp) → isIn 0 (flagsUnary op) ≡ true
+plain-flags Clz = refl
+plain-flags Ctz = refl
+plain-flags Move = refl
+plain-flags Sext8 = refl
+plain-flags Sext16 = refl
+
+module _ (t : ℕ) (room : List ℕ) (w : ℕ) where
+  abbrev pub operandA : ℕ
+  operandA = scalar room t (bits w 17 12)
+
+  abbrev pub operandB : ℕ
+  operandB = scalar room t (bits w 11 6)
+
+  abbrev pub immediate : ℕ
+  immediate = signed (2 ^ 8) (bits w 11 3)
+
+  abbrev pub offset : ℕ
+  offset = signed (2 ^ 17) (bits w 17 0)
+
+  pub binary-R : (op : BinaryOp) → HasOpcode w 0x00 64 (rowR (Binary op) .opcode) → w % 64 ≡ 0 →
+      ActsAnywhere t w room (Write (binary op operandA operandB))
+  unfolding executeWord operateR binaryInto
+  binary-R op h low memory words enabled pc =
+      rw (plain-R w (Binary op) h low (and-both _ _ (free-register (bits w 23 18) (h .free)) refl))
+
+  pub unary-R : (op : UnaryOp) → HasOpcode w 0x00 64 (rowR (Unary op) .opcode) → w % 4096 ≡ 0 →
+      ActsAnywhere t w room (Write (unary op operandA))
+  unfolding executeWord operateR unaryInto
+  unary-R op h low memory words enabled pc =
+      let b : bits w 11 6 ≡ 0 = omega arith in
+      let low6 : w % 64 ≡ 0 = omega arith in
+      let allowed = and-both _ _ (free-register (bits w 23 18) (h .free)) (eq-eqb (bits w 11 6) 0 b) in
+      rw (plain-R w (Unary op) h low6 (rw (plain-flags op) allowed))
+
+  pub compare-R : (op : CompareOp) → HasOpcode w 0x00 64 (rowR (Compare op) .opcode) → w % 64 ≡ 0 →
+      ActsAnywhere t w room (Write (cond (compare op operandA operandB) 1 0))
+  unfolding executeWord operateR compareInto
+  compare-R op h low memory words enabled pc =
+      rw (plain-R w (Compare op) h low (and-both _ _ (free-register (bits w 23 18) (h .free)) refl))
+
+  pub binary-I : (op : BinaryOp) → HasOpcode w 0x40 32 (rowR (Binary op) .opcode) → w % 8 ≡ 0 →
+      ActsAnywhere t w room (Write (binary op operandA immediate))
+  unfolding executeWord operateI binaryInto
+  binary-I op h low memory words enabled pc = rw (plain-I w (Binary op) h low (free-register (bits w 23 18) (h .free)))
+
+  pub compare-I : (op : CompareOp) → HasOpcode w 0x40 32 (rowR (Compare op) .opcode) → w % 8 ≡ 0 →
+      ActsAnywhere t w room (Write (cond (compare op operandA immediate) 1 0))
+  unfolding executeWord operateI compareInto
+  compare-I op h low memory words enabled pc = rw (plain-I w (Compare op) h low (free-register (bits w 23 18) (h .free)))
+
+  pub moves : (op : MoveiOp) → HasOpcode w 0x60 8 (rowMovei op .opcode) → w % 4 ≡ 0 →
+      ActsAnywhere t w room (Write (replaced op (scalar room t (bits w 23 18)) (bits w 17 2)))
+  unfolding executeWord moveImmediate
+  moves op h low memory words enabled pc = rw (plain-Movei w op h low)
+
+  pub jumps : (op : JumpOp) → HasOpcode w 0x70 8 (rowJ op .opcode) → allowsJ op (bits w 23 18) offset ≡ true →
+      (memory : List ℕ) (words enabled pc : ℕ) →
+      executeWord words enabled t room memory pc w ≡ beside (jump words t room pc op (bits w 23 18) offset) memory
+  unfolding executeWord
+  jumps op h allowed memory words enabled pc = rw (plain-J w op h allowed)
+
+  pub accesses : (op : MemoryOp) → HasOpcode w 0x80 64 (rowM op .opcode) → w % 8 ≡ 0 → allowsM op (bits w 23 18) ≡ true →
+      (memory : List ℕ) (words enabled pc : ℕ) →
+      executeWord words enabled t room memory pc w ≡ access t room memory pc op (bits w 23 18) (bits w 17 12) immediate
+  unfolding executeWord
+  accesses op h low allowed memory words enabled pc = rw (plain-M w op h low allowed)
+
+  -- a load that is done
+  pub loads : (op : LoadOp) → HasOpcode w 0x80 64 (rowM (Load op) .opcode) → w % 8 ≡ 0 → (memory : List ℕ) (x : ℕ) →
+      load op memory operandA immediate ≡ done x → ActsOn t w room memory (Write x)
+  unfolding loadInto
+  loads op h low memory x e words enabled pc =
+      accesses (Load op) h low (free-register (bits w 23 18) (h .free)) memory words enabled pc ∙ rw e
+
+  -- a store that is done, and one that traps, which changes no byte
+  pub stores : (op : StoreOp) → HasOpcode w 0x80 64 (rowM (Store op) .opcode) → w % 8 ≡ 0 → (memory stored : List ℕ) →
+      outcome Done stored ≡ store op memory operandA immediate (scalar room t (bits w 23 18)) → (words enabled pc : ℕ) →
+      executed Stays (advanced pc t room) stored ≡ executeWord words enabled t room memory pc w
+  unfolding storeFrom
+  stores op h low memory stored e words enabled pc = sym (accesses (Store op) h low refl memory words enabled pc ∙ rw (← e))
+
+trap-changes : (place : Attempt ℕ) (m : List ℕ) (f : ℕ → List ℕ) (reason : ℕ) (stored : List ℕ) →
+    record { answer = trap reason; memory = stored } ≡ changed place m f → stored ≡ m
+trap-changes (done a) m f reason stored e =
+    let answer : _≡_ {A = Attempt (Unit {0})} (trap reason) (done tt) = ap (λ (o : Outcome). o .answer) e in
+    let z : _≡_ {A = ℕ} 0 1 = cc in
+    absurd (omega arith)
+trap-changes (trap k) m f reason stored e = ap (λ (o : Outcome). o .memory) e
+
+pub store-traps : (op : StoreOp) (memory : List ℕ) (base offset value reason : ℕ) (stored : List ℕ) →
+    record { answer = trap reason; memory = stored } ≡ store op memory base offset value → stored ≡ memory
+unfolding store
+store-traps op memory base offset value reason stored e =
+    trap-changes (scalarPlace (bytesStored op) memory base offset) memory (λ a. withNumber (bytesStored op) memory a value) reason stored e

@@ -1,0 +1,4 @@
+-- Laws that several proofs cite.
+pub mod Words
+pub mod Families
+pub mod Trying

@@ -1,0 +1,39 @@
+-- `issuing::word` meets its contract: each arm by what it calls.
+use borrow.Author.Needs.{needs}
+use Rattle.fast_path.proofs.Trying.{tries-action}
+use Rattle.fast_path.proofs.issuing.word.Statement.{statement}
+use Rattle.fast_path.proofs.issuing.word.Tie as tie
+
+returns-5 : tie.Need-returns-5
+returns-5 c enabled =
+    let called = c .before .before in
+    let chosen = called .before .before in
+    let read = chosen .before .before .before .before .before in
+    let a = read .before .before .before .args in
+    tries-action (a .words) enabled (a .t) (a .pc) (a .w) (read .register .result) (read .register .ensures) (a .room .now) (a .memory .now)
+    (chosen .action .result) (chosen .action .ensures _ enabled _) (called .act .result) _ (called .act .ensures)
+
+pub word-spec : {M : Type 1} → statement M
+word-spec =
+    tie.close
+    (tie.spec
+    (λ c κs. search needs)
+    (λ c. search needs)
+    (λ c. search needs)
+    (λ c κs. search needs)
+    (λ c κs. search needs)
+    (λ c κs. search needs)
+    (λ c κs. search needs)
+    (λ c κs. search needs)
+    (λ c. search needs)
+    (λ c. search needs)
+    (λ c enabled. c .before .before .before .before .store .ensures _ enabled)
+    (λ c. search needs)
+    (λ c. search needs)
+    (λ c enabled. c .before .before .before .before .store2 .ensures _ enabled)
+    (λ c. search needs)
+    (λ c. search needs)
+    (λ c enabled. c .before .before .before .before .store3 .ensures _ enabled)
+    (λ c. search needs)
+    (λ c. search needs)
+    returns-5)

@@ -1,0 +1,3 @@
+-- The fast path: what it does with a word, and what the contracts cite.
+pub mod Types
+pub mod Action

@@ -1,0 +1,153 @@
+// Families of words on scalars: what a word does, or that it is left to the slow path.
+ghost use mathlib.Core.Bool.{cond};
+ghost use mathlib.Core.Path.{_≡_};
+ghost use Prim.Native.Nat.{_<_, _^_};
+ghost use Rattle.execution.specs.Immediate.{replaced};
+ghost use Rattle.execution.specs.Registers.{InRoom};
+ghost use Rattle.isa.specs.Table.{rowR, rowMovei, rowJ, rowM};
+ghost use Rattle.fast_path.specs.Action.{HasOpcode, ActsOn, ActsAnywhere};
+ghost use Rattle.fast_path.specs.Types.{Binary, Unary, Compare, Load};
+use crate::action::Action;
+use crate::field;
+use crate::registers;
+use isa::BinaryOp;
+use isa::CompareOp;
+use isa::JumpOp;
+use isa::LoadOp;
+use isa::MoveiOp;
+use isa::UnaryOp;
+use memory::Loaded;
+
+pub fn binary_r(room: &[u32], t: usize, w: u32, op: BinaryOp) -> Action
+    requires { ⌜ InRoom (now room) t × HasOpcode w 0x00 64 (rowR (Binary op) .opcode) ⌝ }
+    ensures { λ r. ⌜ ActsAnywhere t w (now (room .entry)) r ⌝ }
+{
+    if field::flags_r(w) != 0 {
+        return Action::Defer;
+    }
+    let x = registers::operand_a(room, t, w);
+    let y = registers::operand_b(room, t, w);
+    Action::Write(alu::binary(op, x, y))
+}
+
+pub fn binary_i(room: &[u32], t: usize, w: u32, op: BinaryOp) -> Action
+    requires { ⌜ InRoom (now room) t × HasOpcode w 0x40 32 (rowR (Binary op) .opcode) ⌝ }
+    ensures { λ r. ⌜ ActsAnywhere t w (now (room .entry)) r ⌝ }
+{
+    if field::flags_i(w) != 0 {
+        return Action::Defer;
+    }
+    let x = registers::operand_a(room, t, w);
+    let y = field::immediate(w);
+    Action::Write(alu::binary(op, x, y))
+}
+
+// Field b is 0.
+pub fn unary_r(room: &[u32], t: usize, w: u32, op: UnaryOp) -> Action
+    requires { ⌜ InRoom (now room) t × HasOpcode w 0x00 64 (rowR (Unary op) .opcode) ⌝ }
+    ensures { λ r. ⌜ ActsAnywhere t w (now (room .entry)) r ⌝ }
+{
+    if w % 4096 != 0 {
+        return Action::Defer;
+    }
+    let x = registers::operand_a(room, t, w);
+    Action::Write(alu::unary(op, x))
+}
+
+fn number(holds: bool) -> u32
+    ensures { λ r. ⌜ r ≡ cond holds 1 0 ⌝ }
+{
+    if holds { 1 } else { 0 }
+}
+
+pub fn compare_r(room: &[u32], t: usize, w: u32, op: CompareOp) -> Action
+    requires { ⌜ InRoom (now room) t × HasOpcode w 0x00 64 (rowR (Compare op) .opcode) ⌝ }
+    ensures { λ r. ⌜ ActsAnywhere t w (now (room .entry)) r ⌝ }
+{
+    if field::flags_r(w) != 0 {
+        return Action::Defer;
+    }
+    let x = registers::operand_a(room, t, w);
+    let y = registers::operand_b(room, t, w);
+    Action::Write(number(alu::compare(op, x, y)))
+}
+
+pub fn compare_i(room: &[u32], t: usize, w: u32, op: CompareOp) -> Action
+    requires { ⌜ InRoom (now room) t × HasOpcode w 0x40 32 (rowR (Compare op) .opcode) ⌝ }
+    ensures { λ r. ⌜ ActsAnywhere t w (now (room .entry)) r ⌝ }
+{
+    if field::flags_i(w) != 0 {
+        return Action::Defer;
+    }
+    let x = registers::operand_a(room, t, w);
+    let y = field::immediate(w);
+    Action::Write(number(alu::compare(op, x, y)))
+}
+
+fn replace(op: MoveiOp, old: u32, n: u32) -> u32
+    requires { ⌜ n < 2 ^ 16 ⌝ }
+    ensures { λ r. ⌜ r ≡ replaced op old n ⌝ }
+{
+    match op {
+        MoveiOp::Low => old / 65536 * 65536 + n,
+        MoveiOp::High => n * 65536 + old % 65536,
+        MoveiOp::Whole => n,
+    }
+}
+
+pub fn move_immediate(room: &[u32], t: usize, w: u32, op: MoveiOp) -> Action
+    requires { ⌜ InRoom (now room) t × HasOpcode w 0x60 8 (rowMovei op .opcode) ⌝ }
+    ensures { λ r. ⌜ ActsAnywhere t w (now (room .entry)) r ⌝ }
+{
+    if w % 4 != 0 {
+        return Action::Defer;
+    }
+    let old = registers::operand_d(room, t, w);
+    Action::Write(replace(op, old, w / 4 % 65536))
+}
+
+// jmp has register 0. What links or takes its target from a register is left to the slow path.
+pub fn jump(room: &[u32], t: usize, w: u32, op: JumpOp) -> Action
+    requires { ⌜ InRoom (now room) t × HasOpcode w 0x70 8 (rowJ op .opcode) ⌝ }
+    ensures { λ r. ⌜ ActsAnywhere t w (now (room .entry)) r ⌝ }
+{
+    let register = registers::register(w);
+    let x = registers::operand_d(room, t, w);
+    let offset = field::offset(w);
+    match op {
+        JumpOp::Jmp => if register == 0 {
+            Action::Jump(offset)
+        } else {
+            Action::Defer
+        },
+        JumpOp::Jmpsr => Action::Defer,
+        JumpOp::Jret => Action::Defer,
+        JumpOp::Beqz => if x == 0 {
+            Action::Jump(offset)
+        } else {
+            Action::Next
+        },
+        JumpOp::Bnez => if x != 0 {
+            Action::Jump(offset)
+        } else {
+            Action::Next
+        },
+    }
+}
+
+// A load that traps is left to the slow path, which finds the trap again.
+pub fn load(room: &[u32], memory: &[u8], t: usize, w: u32, op: LoadOp) -> Action
+    requires { ⌜ InRoom (now room) t × HasOpcode w 0x80 64 (rowM (Load op) .opcode) ⌝ }
+    ensures { λ r. ⌜ ActsOn t w (now (room .entry)) (now (memory .entry)) r ⌝ }
+{
+    if field::flags_i(w) != 0 {
+        return Action::Defer;
+    }
+    let base = registers::operand_a(room, t, w);
+    let offset = field::immediate(w);
+    match memory::load(op, memory, base, offset) {
+        Loaded::Value(x) => Action::Write(x),
+        Loaded::Misaligned => Action::Defer,
+        Loaded::Outside => Action::Defer,
+    }
+}
