@@ -5,7 +5,7 @@ use Prim.Native.Nat.{ℕ, _+_, _-_, _*_, _/_, _%_, _^_, _<_}
 use native.Mathlib.Nat.{lt-of-le-of-lt, mul-le-mul-left, mul-lt-mul-of-pos-right, le-of-lt, add-mul, mul-add, mul-comm, mul-assoc, add-zero, add-assoc, add-mul-mod-self-right, add-mul-div-right}
 use native.Mathlib.Omega.{arith}
 use lib.Pow.{pow-pos, field}
-use Rattle.alu.specs.Types.{Sub, Mulhi}
+use Rattle.isa.specs.declared.instruction.BinaryOp.the-variants.{Sub, Mulhi}
 use Rattle.alu.specs.Word.{negative}
 use Rattle.alu.specs.Binary.{binary}
 

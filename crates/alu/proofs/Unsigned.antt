@@ -1,5 +1,4 @@
 -- The unsigned compares are those of the numbers as they are, and the counts of zero bits of 0.
-use Prim.Native.Nat.{ℕ}
 use mathlib.Core.Path.{refl}
 use borrow.Author.Tests.{eqb-true, eqb-false, eq-eqb, ne-eqb, leb-true, le-leb, ltb-true, lt-ltb, not-true}
 use lib.Dec.{eqb}

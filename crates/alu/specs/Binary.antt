@@ -1,7 +1,8 @@
 -- The operations on two words (document 01, "The words", R).
 use Prim.Native.Nat.{ℕ, _+_, _-_, _*_, _/_, _%_, _^_}
 use lib.Bits.{bitAnd, bitOr, bitXor}
-use Rattle.alu.specs.Types.{BinaryOp, Or, And, Xor, Add, Sub, Mullo, Mulhi, Mulhu, Ashr, Shr, Shl}
+use Rattle.isa.specs.declared.instruction.BinaryOp.{BinaryOp}
+use Rattle.isa.specs.declared.instruction.BinaryOp.the-variants.{Or, And, Xor, Add, Sub, Mullo, Mulhi, Mulhu, Ashr, Shr, Shl}
 use Rattle.alu.specs.Word.{extended}
 
 -- "Shifts use the low five bits of b."

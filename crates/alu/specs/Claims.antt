@@ -5,7 +5,9 @@ use mathlib.Core.Logic.{_↔_}
 use mathlib.Core.Path.{_≡_}
 use lib.IntN.{_*ℤ_}
 use lib.Signed.{ltZ, leZ, shrZ}
-use Rattle.alu.specs.Types.{Mulhi, Ashr, Clz, Ctz, Sext8, Sext16, Eq, Ne, Gt, Ge, Lt, Le, Ugt, Uge, Ult, Ule}
+use Rattle.isa.specs.declared.instruction.BinaryOp.the-variants.{Mulhi, Ashr}
+use Rattle.isa.specs.declared.instruction.UnaryOp.the-variants.{Clz, Ctz, Sext8, Sext16}
+use Rattle.isa.specs.declared.instruction.CompareOp.the-variants.{Eq, Ne, Gt, Ge, Lt, Le, Ugt, Uge, Ult, Ule}
 use Rattle.alu.specs.Word.{value}
 use Rattle.alu.specs.Binary.{binary, distance}
 use Rattle.alu.specs.Unary.{unary}

@@ -2,7 +2,8 @@
 use Prim.Native.Nat.{ℕ}
 use mathlib.Core.Bool.{Bool, not}
 use lib.Dec.{eqb, leb, ltb}
-use Rattle.alu.specs.Types.{CompareOp, Eq, Ne, Gt, Ge, Lt, Le, Ugt, Uge, Ult, Ule}
+use Rattle.isa.specs.declared.instruction.CompareOp.{CompareOp}
+use Rattle.isa.specs.declared.instruction.CompareOp.the-variants.{Eq, Ne, Gt, Ge, Lt, Le, Ugt, Uge, Ult, Ule}
 use Rattle.alu.specs.Word.{rank}
 
 -- "14 cmpeq, 15 cmpne, signed 16 cmpgt, 17 cmpge, 18 cmplt, 19 cmple, unsigned 20 cmpugt, 21 cmpuge, 22 cmpult, 23 cmpule."

@@ -1,5 +1,4 @@
 -- Operations on words: what the contracts cite.
-pub mod Types
 pub mod Word
 pub mod Binary
 pub mod Unary

@@ -1,6 +1,6 @@
 // The low bits of a word as a signed number.
 ghost use mathlib.Core.Path.{_≡_};
-ghost use Rattle.alu.specs.Types.{Sext8, Sext16};
+ghost use Rattle.isa.specs.declared.instruction.UnaryOp.the-variants.{Sext8, Sext16};
 ghost use Rattle.alu.specs.Unary.{unary};
 
 pub fn sext8(x: u32) -> u32

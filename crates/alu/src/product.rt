@@ -1,7 +1,7 @@
 // Products of two words: the low half, and the high half signed and unsigned.
 ghost use mathlib.Core.Path.{_≡_};
 ghost use mathlib.Core.Bool.{cond};
-ghost use Rattle.alu.specs.Types.{Mullo, Mulhi, Mulhu};
+ghost use Rattle.isa.specs.declared.instruction.BinaryOp.the-variants.{Mullo, Mulhi, Mulhu};
 ghost use Rattle.alu.specs.Word.{negative};
 ghost use Rattle.alu.specs.Binary.{binary};
 

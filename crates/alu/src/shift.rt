@@ -1,6 +1,6 @@
 // Shifts of a word, by the low five bits of the second operand.
 ghost use mathlib.Core.Path.{_≡_};
-ghost use Rattle.alu.specs.Types.{Ashr, Shr, Shl};
+ghost use Rattle.isa.specs.declared.instruction.BinaryOp.the-variants.{Ashr, Shr, Shl};
 ghost use Rattle.alu.specs.Binary.{binary};
 
 // A negative word is shifted as its complement, so that ones come in from above: the compiler makes one instruction of it.

@@ -5,7 +5,8 @@ use Prim.Native.Nat.{ℕ, _+_, _%_, _^_, _<_}
 use native.Mathlib.Omega.{arith}
 use lib.Dec.{eqb, leb, ltb}
 use borrow.Author.Tests.{lt-ltb, le-ltb, le-leb, lt-leb, eq-eqb, ne-eqb}
-use Rattle.compares.specs.Types.{CompareOp, Eq, Ne, Gt, Ge, Lt, Le, Ugt, Uge, Ult, Ule}
+use Rattle.isa.specs.declared.instruction.CompareOp.{CompareOp}
+use Rattle.isa.specs.declared.instruction.CompareOp.the-variants.{Eq, Ne, Gt, Ge, Lt, Le, Ugt, Uge, Ult, Ule}
 use Rattle.alu.specs.Compare.{compare}
 use Rattle.compares.specs.Outcome.{biasOf, flagsOf, outcomesOf}
 use Rattle.compares.specs.declared.outcome.Outcomes.{Outcomes}

@@ -4,7 +4,7 @@ use mathlib.Core.Bool.{Bool, cond, _&&_}
 use mathlib.Core.List.{List}
 use Rattle.alu.specs.Compare.{compare}
 use Rattle.vector.specs.Lanes.{lane, isOn}
-use Rattle.compares.specs.Types.{CompareOp}
+use Rattle.isa.specs.declared.instruction.CompareOp.{CompareOp}
 
 -- the number of n bits whose bit j is 1 exactly where f j holds
 unfoldable pub bits : ℕ → (ℕ → Bool) → ℕ

@@ -2,7 +2,8 @@
 use Prim.Native.Nat.{ℕ, _-_, _^_}
 use mathlib.Core.Bool.{Bool, cond}
 use mathlib.Core.List.{List}
-use Rattle.compares.specs.Types.{CompareOp, Eq, Ne, Gt, Ge, Lt, Le, Ugt, Uge, Ult, Ule}
+use Rattle.isa.specs.declared.instruction.CompareOp.{CompareOp}
+use Rattle.isa.specs.declared.instruction.CompareOp.the-variants.{Eq, Ne, Gt, Ge, Lt, Le, Ugt, Uge, Ult, Ule}
 use Rattle.alu.specs.Compare.{compare}
 use Rattle.vector.specs.Lanes.{lane}
 use Rattle.compares.specs.Lanes.{bits}

@@ -21,7 +21,7 @@ use Rattle.isa.specs.Write.{write, written as encoded, writeR, writeI, writeMov
 use Rattle.fields.proofs.Again.{encoded-numbers, numbered, own, same, has-word}
 use Rattle.fields.specs.Claims.{HasWord, Numbered}
 use Rattle.fields.specs.Find.{Held, held, beside, written, wordFor}
-use Rattle.fields.specs.Instructions.{instructionNumbers, instructionOf}
+use Rattle.fields.specs.Instructions.{instructionOf}
 use Rattle.fields.specs.Numbers.{sameNumbers, reduced, filled, numbersOf, wordOf}
 use Rattle.fields.specs.Types.{Numbers, Instruction, R, I, Movei, J, C, M}
 

@@ -1,6 +1,5 @@
 -- The six numbers of an instruction, and the instruction that has six numbers.
-use Prim.Native.Nat.{ℕ}
-use mathlib.Core.Bool.{Bool, cond}
+use mathlib.Core.Bool.{cond}
 use mathlib.Core.Option.{Option, none, some, Option·map}
 use lib.Dec.{eqb}
 use Rattle.isa.specs.Table.{rowR, rowI, rowMovei, rowJ, rowC, rowM, tableR, tableMovei, tableJ, tableC, tableM, operationAt}

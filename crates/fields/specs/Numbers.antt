@@ -3,7 +3,7 @@ use Prim.Native.Nat.{ℕ, _%_, _^_}
 use mathlib.Core.Bool.{Bool, _&&_, cond}
 use mathlib.Core.List.{List, [], _∷_}
 use lib.Dec.{eqb}
-use Rattle.isa.specs.Layout.{bits, signed, Part, width, pack, layoutR, layoutI, layoutMovei, layoutJ, layoutC, layoutM}
+use Rattle.isa.specs.Layout.{bits, signed, Part, width, pack, layoutR, layoutI, layoutMovei, layoutJ, layoutC, layoutM, prefixR, prefixI, prefixMovei, prefixJ, prefixC, prefixM}
 use Rattle.isa.specs.Read.{Formats, byFormat}
 use Rattle.fields.specs.Types.{Numbers}
 
@@ -65,22 +65,22 @@ filled layout vs = pack layout (reduced layout vs)
 -- The word with six numbers in its fields, by format. "Unnamed bits are 0."
 
 abbrev pub packR : Numbers → ℕ
-packR n = filled layoutR (0b00 ∷ n .opcode ∷ n .first ∷ n .second ∷ n .third ∷ 0 ∷ 0 ∷ n .flags ∷ 0 ∷ [])
+packR n = filled layoutR (prefixR ∷ n .opcode ∷ n .first ∷ n .second ∷ n .third ∷ 0 ∷ 0 ∷ n .flags ∷ 0 ∷ [])
 
 abbrev pub packI : Numbers → ℕ
-packI n = filled layoutI (0b010 ∷ n .opcode ∷ n .first ∷ n .second ∷ n .third ∷ n .flags ∷ 0 ∷ [])
+packI n = filled layoutI (prefixI ∷ n .opcode ∷ n .first ∷ n .second ∷ n .third ∷ n .flags ∷ 0 ∷ [])
 
 abbrev pub packMovei : Numbers → ℕ
-packMovei n = filled layoutMovei (0b01100 ∷ n .opcode ∷ n .first ∷ n .second ∷ n .flags ∷ 0 ∷ [])
+packMovei n = filled layoutMovei (prefixMovei ∷ n .opcode ∷ n .first ∷ n .second ∷ n .flags ∷ 0 ∷ [])
 
 abbrev pub packJ : Numbers → ℕ
-packJ n = filled layoutJ (0b01110 ∷ n .opcode ∷ n .first ∷ n .second ∷ [])
+packJ n = filled layoutJ (prefixJ ∷ n .opcode ∷ n .first ∷ n .second ∷ [])
 
 abbrev pub packC : Numbers → ℕ
-packC n = filled layoutC (0b01111 ∷ n .opcode ∷ n .first ∷ n .second ∷ 0 ∷ [])
+packC n = filled layoutC (prefixC ∷ n .opcode ∷ n .first ∷ n .second ∷ 0 ∷ [])
 
 abbrev pub packM : Numbers → ℕ
-packM n = filled layoutM (0b10 ∷ n .opcode ∷ n .first ∷ n .second ∷ n .third ∷ 0 ∷ 0 ∷ [])
+packM n = filled layoutM (prefixM ∷ n .opcode ∷ n .first ∷ n .second ∷ n .third ∷ 0 ∷ 0 ∷ [])
 
 -- 0, which is undefined, where no format has the number
 unfoldable pub wordOf : Numbers → ℕ

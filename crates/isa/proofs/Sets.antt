@@ -8,7 +8,8 @@ use borrow.Author.Tests.{ltb-true, ltb-false, ne-eqb}
 use lib.Dec.{eqb, ltb}
 use Rattle.isa.specs.Rule.{flagsR, flagsI}
 use Rattle.isa.specs.Test.{isInFrom, isIn, setOf, inSet}
-use Rattle.isa.specs.Types.{Clz, Ctz, Move, Sext8, Sext16, Operation, Binary, Unary, Compare, Shuffle, GetLane}
+use Rattle.isa.specs.declared.instruction.UnaryOp.the-variants.{Clz, Ctz, Move, Sext8, Sext16}
+use Rattle.isa.specs.Types.{Operation, Binary, Unary, Compare, Shuffle, GetLane}
 use Rattle.isa.proofs.Both.{and-left, and-right}
 
 -- every number of the list is below 8

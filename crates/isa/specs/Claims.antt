@@ -8,7 +8,8 @@ use lib.Dec.{eqb, leb}
 use Rattle.answer.specs.Answer.{Answer, given, refused}
 use Rattle.isa.specs.Layout.{bits}
 use Rattle.isa.specs.Read.{read}
-use Rattle.isa.specs.Types.{Instruction, R, I, Movei, J, C, M, Binary, Add}
+use Rattle.isa.specs.declared.instruction.BinaryOp.the-variants.{Add}
+use Rattle.isa.specs.Types.{Instruction, R, I, Movei, J, C, M, Binary}
 use Rattle.isa.specs.Write.{write}
 
 -- "Words read into instructions and instructions written into words follow the same tables, with no other word accepted."

@@ -37,29 +37,49 @@ room [] vs = []
 room (p ∷ ps) [] = []
 room (p ∷ ps) (v ∷ vs) = ltb v (2 ^ width p) ∷ room ps vs
 
+-- Each format's parts, and what its first part is: the prefix that tells the formats apart.
+
 -- "R: bits 31-30 = 00, opcode 29-24, d 23-18, a 17-12, b 11-6, l bit 4, vector flags bit 3 (d), 2 (a), 1 (b)."
 abbrev pub layoutR : List Part
 layoutR = 31 to 30 ∷ 29 to 24 ∷ 23 to 18 ∷ 17 to 12 ∷ 11 to 6 ∷ 5 to 5 ∷ 4 to 4 ∷ 3 to 1 ∷ 0 to 0 ∷ []
+
+abbrev pub prefixR : ℕ
+prefixR = 0b00
 
 -- "I: bits 31-29 = 010, opcode 28-24, d 23-18, a 17-12, signed immediate 11-3, flags bit 2 (d), 1 (a)."
 abbrev pub layoutI : List Part
 layoutI = 31 to 29 ∷ 28 to 24 ∷ 23 to 18 ∷ 17 to 12 ∷ 11 to 3 ∷ 2 to 1 ∷ 0 to 0 ∷ []
 
+abbrev pub prefixI : ℕ
+prefixI = 0b010
+
 -- "MOVEI: bits 31-27 = 01100, opcode 26-24, d 23-18, immediate 17-2, vector flag bit 1."
 abbrev pub layoutMovei : List Part
 layoutMovei = 31 to 27 ∷ 26 to 24 ∷ 23 to 18 ∷ 17 to 2 ∷ 1 to 1 ∷ 0 to 0 ∷ []
+
+abbrev pub prefixMovei : ℕ
+prefixMovei = 0b01100
 
 -- "J: bits 31-27 = 01110, opcode 26-24, register 23-18, signed byte offset 17-0"
 abbrev pub layoutJ : List Part
 layoutJ = 31 to 27 ∷ 26 to 24 ∷ 23 to 18 ∷ 17 to 0 ∷ []
 
+abbrev pub prefixJ : ℕ
+prefixJ = 0b01110
+
 -- "C: bits 31-27 = 01111, opcode 26-24, first register 23-18, second 17-12."
 abbrev pub layoutC : List Part
 layoutC = 31 to 27 ∷ 26 to 24 ∷ 23 to 18 ∷ 17 to 12 ∷ 11 to 0 ∷ []
 
+abbrev pub prefixC : ℕ
+prefixC = 0b01111
+
 -- "M: bits 31-30 = 10, opcode 29-24, register 23-18, scalar base 17-12, signed offset 11-3, bits 2 and 1."
 abbrev pub layoutM : List Part
 layoutM = 31 to 30 ∷ 29 to 24 ∷ 23 to 18 ∷ 17 to 12 ∷ 11 to 3 ∷ 2 to 1 ∷ 0 to 0 ∷ []
+
+abbrev pub prefixM : ℕ
+prefixM = 0b10
 
 -- A signed number is held modulo 2^32. A signed field whose sign bit weighs h, as the number that it stands for;
 unfoldable pub signed : ℕ → ℕ → ℕ

@@ -5,7 +5,7 @@ use mathlib.Core.List.{[], _∷_}
 use mathlib.Core.Option.{Option, none, some}
 use lib.Dec.{eqb}
 use Rattle.answer.specs.Answer.{Answer, given, refused, undefined, not-fitted}
-use Rattle.isa.specs.Layout.{bits, signed}
+use Rattle.isa.specs.Layout.{bits, signed, prefixR, prefixI, prefixMovei, prefixJ, prefixC, prefixM}
 use Rattle.isa.specs.Rule.{allowsR, allowsI, allowsMovei, allowsJ, allowsC, allowsM}
 use Rattle.isa.specs.Table.{tableR, tableMovei, tableJ, tableC, tableM, not-fitted-opcodes, operationAt}
 use Rattle.isa.specs.Test.{all, isIn}
@@ -90,12 +90,12 @@ pub record Formats (A : Type 0) : Type 0 where
 -- what a word is by its format, which its upper bits say
 abbrev pub byFormat : {A : Type 0} → (ℕ → Formats A) → ℕ → A
 byFormat f w =
-    cond (eqb (bits w 31 30) 0b00) (f w .r)
-    (cond (eqb (bits w 31 29) 0b010) (f w .i)
-    (cond (eqb (bits w 31 27) 0b01100) (f w .movei)
-    (cond (eqb (bits w 31 27) 0b01110) (f w .j)
-    (cond (eqb (bits w 31 27) 0b01111) (f w .c)
-    (cond (eqb (bits w 31 30) 0b10) (f w .m)
+    cond (eqb (bits w 31 30) prefixR) (f w .r)
+    (cond (eqb (bits w 31 29) prefixI) (f w .i)
+    (cond (eqb (bits w 31 27) prefixMovei) (f w .movei)
+    (cond (eqb (bits w 31 27) prefixJ) (f w .j)
+    (cond (eqb (bits w 31 27) prefixC) (f w .c)
+    (cond (eqb (bits w 31 30) prefixM) (f w .m)
     (f w .other))))))
 
 abbrev pub reads : ℕ → Formats (Answer Instruction)

@@ -6,7 +6,10 @@ use mathlib.Core.Option.{Option, none, some}
 use Prim.Native.String.{String}
 use lib.Dec.{eqb}
 use Rattle.isa.specs.Text.{bytes}
-use Rattle.isa.specs.Types.{Or, And, Xor, Add, Sub, Mullo, Mulhi, Mulhu, Ashr, Shr, Shl, Clz, Ctz, Move, Sext8, Sext16, Eq, Ne, Gt, Ge, Lt, Le, Ugt, Uge, Ult, Ule, Operation, Binary, Unary, Compare, Shuffle, GetLane}
+use Rattle.isa.specs.declared.instruction.BinaryOp.the-variants.{Or, And, Xor, Add, Sub, Mullo, Mulhi, Mulhu, Ashr, Shr, Shl}
+use Rattle.isa.specs.declared.instruction.UnaryOp.the-variants.{Clz, Ctz, Move, Sext8, Sext16}
+use Rattle.isa.specs.declared.instruction.CompareOp.the-variants.{Eq, Ne, Gt, Ge, Lt, Le, Ugt, Uge, Ult, Ule}
+use Rattle.isa.specs.Types.{Operation, Binary, Unary, Compare, Shuffle, GetLane}
 use Rattle.isa.specs.Types.{MoveiOp, Low, High, Whole, JumpOp, Jmp, Jmpsr, Jret, Beqz, Bnez, ControlOp, Barrier, Readcr, End, Load8, Load16, Load32, Load8u, Load16u, Store8, Store16, Store32, MemoryOp, Load, Store, LoadVector, StoreVector}
 use Rattle.isa.specs.Types.{Instruction, R, I, Movei, J, C, M}
 

@@ -1,10 +1,7 @@
--- The types that the code declares, in one module.
+-- The types that the code declares, in one module. The operations of R are imported where they are told apart.
 pub use Rattle.isa.specs.declared.instruction.BinaryOp.{BinaryOp}
-pub use Rattle.isa.specs.declared.instruction.BinaryOp.the-variants.{Or, And, Xor, Add, Sub, Mullo, Mulhi, Mulhu, Ashr, Shr, Shl}
 pub use Rattle.isa.specs.declared.instruction.UnaryOp.{UnaryOp}
-pub use Rattle.isa.specs.declared.instruction.UnaryOp.the-variants.{Clz, Ctz, Move, Sext8, Sext16}
 pub use Rattle.isa.specs.declared.instruction.CompareOp.{CompareOp}
-pub use Rattle.isa.specs.declared.instruction.CompareOp.the-variants.{Eq, Ne, Gt, Ge, Lt, Le, Ugt, Uge, Ult, Ule}
 pub use Rattle.isa.specs.declared.instruction.Operation.{Operation}
 pub use Rattle.isa.specs.declared.instruction.Operation.the-variants.{Binary, Unary, Compare, Shuffle, GetLane}
 pub use Rattle.isa.specs.declared.instruction.MoveiOp.{MoveiOp}

@@ -3,7 +3,7 @@ use Prim.Native.Nat.{ℕ, _^_}
 use mathlib.Core.Bool.{Bool, true, false, _&&_}
 use mathlib.Core.List.{List, [], _∷_}
 use Rattle.answer.specs.Answer.{Answer, given, refused, no-word}
-use Rattle.isa.specs.Layout.{Part, pack, room, layoutR, layoutI, layoutMovei, layoutJ, layoutC, layoutM, truncated, fits-signed}
+use Rattle.isa.specs.Layout.{Part, pack, room, layoutR, layoutI, layoutMovei, layoutJ, layoutC, layoutM, prefixR, prefixI, prefixMovei, prefixJ, prefixC, prefixM, truncated, fits-signed}
 use Rattle.isa.specs.Rule.{allowsR, allowsI, allowsMovei, allowsJ, allowsC, allowsM}
 use Rattle.isa.specs.Table.{rowR, rowI, rowMovei, rowJ, rowC, rowM}
 use Rattle.isa.specs.Test.{all}
@@ -21,28 +21,28 @@ encoded allowed layout numbers = written (all (allowed ∷ room layout numbers))
 -- The word of an instruction, by format. "Unnamed bits are 0."
 
 unfoldable pub writeR : Operation → ℕ → ℕ → ℕ → ℕ → Answer ℕ
-writeR op flags d a b = encoded (allowsR op flags d b) layoutR (0b00 ∷ rowR op .opcode ∷ d ∷ a ∷ b ∷ 0 ∷ 0 ∷ flags ∷ 0 ∷ [])
+writeR op flags d a b = encoded (allowsR op flags d b) layoutR (prefixR ∷ rowR op .opcode ∷ d ∷ a ∷ b ∷ 0 ∷ 0 ∷ flags ∷ 0 ∷ [])
 
 unfoldable pub writeI : Operation → ℕ → ℕ → ℕ → ℕ → Answer ℕ
 writeI op flags d a immediate =
     encoded (allowsI op flags d && fits-signed (2 ^ 8) immediate) layoutI
-    (0b010 ∷ rowI op .opcode ∷ d ∷ a ∷ truncated (2 ^ 8) immediate ∷ flags ∷ 0 ∷ [])
+    (prefixI ∷ rowI op .opcode ∷ d ∷ a ∷ truncated (2 ^ 8) immediate ∷ flags ∷ 0 ∷ [])
 
 unfoldable pub writeMovei : MoveiOp → ℕ → ℕ → ℕ → Answer ℕ
-writeMovei op flag d immediate = encoded (allowsMovei flag d) layoutMovei (0b01100 ∷ rowMovei op .opcode ∷ d ∷ immediate ∷ flag ∷ 0 ∷ [])
+writeMovei op flag d immediate = encoded (allowsMovei flag d) layoutMovei (prefixMovei ∷ rowMovei op .opcode ∷ d ∷ immediate ∷ flag ∷ 0 ∷ [])
 
 unfoldable pub writeJ : JumpOp → ℕ → ℕ → Answer ℕ
 writeJ op register offset =
     encoded (allowsJ op register offset && fits-signed (2 ^ 17) offset) layoutJ
-    (0b01110 ∷ rowJ op .opcode ∷ register ∷ truncated (2 ^ 17) offset ∷ [])
+    (prefixJ ∷ rowJ op .opcode ∷ register ∷ truncated (2 ^ 17) offset ∷ [])
 
 unfoldable pub writeC : ControlOp → ℕ → ℕ → Answer ℕ
-writeC op first second = encoded (allowsC op first second) layoutC (0b01111 ∷ rowC op .opcode ∷ first ∷ second ∷ 0 ∷ [])
+writeC op first second = encoded (allowsC op first second) layoutC (prefixC ∷ rowC op .opcode ∷ first ∷ second ∷ 0 ∷ [])
 
 unfoldable pub writeM : MemoryOp → ℕ → ℕ → ℕ → Answer ℕ
 writeM op register base offset =
     encoded (allowsM op register && fits-signed (2 ^ 8) offset) layoutM
-    (0b10 ∷ rowM op .opcode ∷ register ∷ base ∷ truncated (2 ^ 8) offset ∷ 0 ∷ 0 ∷ [])
+    (prefixM ∷ rowM op .opcode ∷ register ∷ base ∷ truncated (2 ^ 8) offset ∷ 0 ∷ 0 ∷ [])
 
 -- what an instruction is written as
 unfoldable pub write : Instruction → Answer ℕ

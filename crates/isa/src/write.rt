@@ -1,4 +1,5 @@
-// Instructions written into words.
+// Instructions written into words. The tests of the opcode stand as the definition has them, since packing asks for room, and decide nothing:
+// every opcode of R, MOVEI, J, C and M has room, and an opcode of R that has none in a word of I has no flags there either.
 use crate::field;
 use crate::instruction::ControlOp;
 use crate::instruction::Instruction;

@@ -57,11 +57,6 @@ module _ (rs : List names.Row) (f o k : ℕ) (h : k < length rs) where
   unfolding named
   behind e = rw (drop-cons rs k (0, 0, 0, []) h, e)
 
--- the table has a row for each operation
-pub count : length rows ≡ 49
-unfolding rows
-count = refl
-
 -- so each operation has its name in the row of its opcode
 pub of-R : (op : Operation) → named rows 0 (rowR op .opcode) ≡ spelled (rowR op .name)
 unfolding rows

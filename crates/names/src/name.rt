@@ -14,7 +14,9 @@ pub struct Name {
 // A row of the table: the number of the format, the opcode, and the name's length and bytes.
 struct Row(u8, u8, usize, [u8; 16]);
 
-const ROWS: [Row; 49] = [
+const COUNT: usize = 49;
+
+const ROWS: [Row; COUNT] = [
     // R, and I with a letter more
     Row(0, 1, 2, *b"or\0\0\0\0\0\0\0\0\0\0\0\0\0\0"),
     Row(0, 2, 3, *b"and\0\0\0\0\0\0\0\0\0\0\0\0\0"),
@@ -71,7 +73,7 @@ const ROWS: [Row; 49] = [
     Row(5, 40, 6, *b"storev\0\0\0\0\0\0\0\0\0\0"),
 ];
 
-fn table() -> [Row; 49]
+fn table() -> [Row; COUNT]
     ensures { λ r. ⌜ r ≡ rows ⌝ }
 {
     ROWS
@@ -83,7 +85,7 @@ fn find(format: u8, opcode: u8) -> Name
 {
     let rows = table();
     let mut k = 0;
-    while k < 49 {
+    while k < COUNT {
         let row = rows[k];
         if (format == row.0) & (opcode == row.1) {
             let bytes = row.3;

@@ -3,7 +3,8 @@ use Prim.Native.Nat.{ℕ, _<_}
 use mathlib.Core.Path.{_≡_}
 use mathlib.Core.List.{List}
 use lib.ListN.{length}
-use Rattle.vector.specs.Types.{BinaryOp, UnaryOp}
+use Rattle.isa.specs.declared.instruction.BinaryOp.{BinaryOp}
+use Rattle.isa.specs.declared.instruction.UnaryOp.{UnaryOp}
 use Rattle.vector.specs.Lanes.{tab, lane, binaryLanes, unaryLanes, shuffled, blended, splatted}
 
 -- a list given place by place has that many places,

@@ -1,4 +1,3 @@
 -- Sixteen lanes of words: what the contracts cite.
-pub mod Types
 pub mod Lanes
 pub mod Claims

@@ -1,7 +1,7 @@
 -- `product::mulhi` meets its contract: the unsigned high half, less what each negative operand has too much.
 use mathlib.Core.Path.{sym, ap₂, _∙_}
 use borrow.Author.Needs.{needs}
-use Rattle.alu.specs.Types.{Sub}
+use Rattle.isa.specs.declared.instruction.BinaryOp.the-variants.{Sub}
 use Rattle.alu.specs.Binary.{binary}
 use Rattle.alu.proofs.Products.{difference, mulhi-is}
 use Rattle.alu.proofs.product.mulhi.Statement.{statement}
