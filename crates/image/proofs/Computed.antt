@@ -4,11 +4,11 @@ use Rattle.answer.specs.Refusal.{firstThatApplies}
 use Rattle.machine.specs.Machine.{allThreads, anyThread, countThreads, start}
 use Rattle.machine.specs.Search.{all, any, count}
 use Rattle.machine.specs.WellFormed.{numbersInRange, wellFormedWithin}
+use Rattle.image_layout.specs.Join.{joined, total, allBelow}
+use Rattle.image_layout.specs.Layout.{positionIn, orderOf, recordOf, sectionOf, startOf, bodyAt, standsAt, headsOf, headsIn}
 use Rattle.image.specs.Bytes.{bytesOf}
 use Rattle.image.specs.Fields.{accepted, threadOf}
 use Rattle.image.specs.Image.{entryIn, threadsIn, machineIn, recordIn}
-use Rattle.image.specs.Join.{joined, total, allBelow}
-use Rattle.image.specs.Layout.{positionIn, orderOf, recordOf, sectionOf, startOf, bodyAt, standsAt, headsOf, headsIn}
 use Rattle.image.specs.Opening.{recordBytes, openingNumber}
 use Rattle.image.specs.Refusal.{writeNumber, readNumber}
 use Rattle.image.specs.Rows.{BytesHold, WriteOrder, ReadOrder, OpeningOrder}

@@ -1,12 +1,7 @@
 -- The laws that several proofs cite, and the proofs of the claims.
-pub mod Tests
-pub mod Join
-pub mod Parts
-pub mod Rows
+pub mod Bodies
 pub mod Words
 pub mod Numbers
-pub mod Table
-pub mod Standing
 pub mod Refusals
 pub mod RecordIn
 pub mod Openings

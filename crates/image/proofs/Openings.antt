@@ -12,15 +12,16 @@ use Rattle.machine.specs.State.{State, state}
 use Rattle.machine.proofs.Tests.{both}
 use Rattle.machine.specs.Machine.{zeroed}
 use Rattle.machine.specs.WellFormed.{wellFormed}
+use Rattle.image_layout.proofs.Rows.{section-length}
+use Rattle.image_layout.specs.Join.{total, joined, allBelow}
+use Rattle.image_layout.specs.Layout.{recordKinds, rowOf, laidOut, sectionOf, startOf, headsUpTo}
 use Rattle.image.specs.Claims.{OpensWith}
 use Rattle.image.specs.Image.{shapeOf, bodyOf, image, isEntry, entryIn, machineIn, recordIn}
-use Rattle.image.specs.Join.{total, joined, allBelow}
-use Rattle.image.specs.Layout.{recordKinds, rowOf, laidOut, sectionOf, startOf, headsUpTo}
 use Rattle.image.specs.Opening.{noBlocks, recordBytes, recordLength, openingNumber, readOpening}
 use Rattle.image.specs.Refusal.{contentNumber}
 use Rattle.image.specs.Types.{Hd, Th, Sr, Vr, Mm, Machine}
 use Rattle.image.proofs.Refusals.{content-good}
-use Rattle.image.proofs.Rows.{body-length-of, section-length}
+use Rattle.image.proofs.Bodies.{body-length-of}
 
 pub opening-start : startOf noBlocks recordKinds ≡ recordLength
 unfolding startOf total

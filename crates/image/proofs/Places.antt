@@ -2,9 +2,9 @@
 use mathlib.Core.Path.{refl}
 use native.Mathlib.Omega.{arith}
 use lib.ListN.{length}
+use Rattle.image_layout.specs.Join.{total}
+use Rattle.image_layout.specs.Layout.{positionIn, orderOf, startOf}
 use Rattle.image.specs.Claims.{Begins, Placed}
-use Rattle.image.specs.Join.{total}
-use Rattle.image.specs.Layout.{positionIn, orderOf, startOf}
 use Rattle.image.proofs.Refusals.{memory-blocks, memory-whole}
 use Rattle.image.proofs.Written.{body}
 

@@ -7,16 +7,16 @@ use native.Mathlib.Omega.{arith}
 use lib.ListN.{length, getD, take, drop}
 use lib.Seq.{getD-drop, getD-take}
 use Rattle.answer.specs.Answer.{Answer}
+use Rattle.image_layout.proofs.Join.{grown-whole, length-even}
+use Rattle.image_layout.proofs.Parts.{joined-same}
+use Rattle.image_layout.proofs.Rows.{record-room, kind-room-in, order-few}
+use Rattle.image_layout.proofs.Tests.{all-same}
+use Rattle.image_layout.specs.Join.{joined, allBelow, Grown}
+use Rattle.image_layout.specs.Layout.{rowOf, kinds, orderOf, recordSize, startOf, bodyPlace, bodyAt}
 use Rattle.image.specs.Fields.{fields, threadOf}
 use Rattle.machine.specs.WellFormed.{wellFormed}
 use Rattle.image.specs.Image.{fieldsIn, isEntry, entryOr, entryIn, threadsIn, machineIn, recordIn}
-use Rattle.image.specs.Join.{joined, allBelow, Grown}
-use Rattle.image.specs.Layout.{rowOf, kinds, orderOf, recordSize, startOf, bodyPlace, bodyAt}
 use Rattle.image.specs.Types.{Hd, Th, Shape, Kind, Thread, Machine}
-use Rattle.image.proofs.Join.{grown-whole, length-even}
-use Rattle.image.proofs.Parts.{joined-same}
-use Rattle.image.proofs.Rows.{record-room, kind-room-in, order-few}
-use Rattle.image.proofs.Tests.{all-same}
 
 -- a byte of a part
 pub part-byte : (l : List ℕ) (at w k : ℕ) → k < w → getD (take w (drop at l)) k 0 ≡ getD l (at + k) 0

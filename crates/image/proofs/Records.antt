@@ -10,15 +10,15 @@ use Rattle.answer.specs.Refusal.{refusedOr}
 use Rattle.machine.specs.State.{State, state}
 use Rattle.machine.specs.Machine.{zeroed}
 use Rattle.machine.specs.WellFormed.{wellFormed}
+use Rattle.image_layout.proofs.Table.{body-up-to, heads-up-to}
+use Rattle.image_layout.specs.Layout.{recordKinds, kindAt, positionIn, orderOf, rowOf, bodyIn, headsUpTo}
 use Rattle.image.specs.Claims.{RecordAgain}
 use Rattle.image.specs.Image.{bodyOf, machineIn, recordIn}
-use Rattle.image.specs.Layout.{recordKinds, kindAt, positionIn, orderOf, rowOf, bodyIn, headsUpTo}
 use Rattle.image.specs.Opening.{noBlocks, recordBytes, opened, openingNumber, readOpening}
 use Rattle.image.specs.Refusal.{contentNumber}
 use Rattle.image.specs.Types.{Hd, Th, Machine}
 use Rattle.image.proofs.Refusals.{content-none}
-use Rattle.image.proofs.Rows.{body-length-of}
-use Rattle.image.proofs.Table.{body-up-to, heads-up-to}
+use Rattle.image.proofs.Bodies.{body-length-of}
 use Rattle.image.proofs.Written.{machine-held, record-held}
 
 module _ (m : Machine) (h : wellFormed m ≡ true) where

@@ -12,16 +12,15 @@ use Rattle.answer.specs.Answer.{given, refused}
 use Rattle.answer.proofs.Checks.{passed, first-after, either-given}
 use Rattle.answer.proofs.Lengths.{memory-most}
 use Rattle.answer.specs.Refusal.{badRegisters, badMemory, fixedPart, imageLength, badLength, check, firstThatApplies, sizeChecks, sizesNumber, refusedOr}
-use Rattle.machine.specs.State.{State, state}
+use Rattle.machine.specs.State.{State}
 use Rattle.machine.proofs.Tests.{neither}
-use Rattle.machine.specs.Machine.{zeroed}
 use Rattle.machine.specs.WellFormed.{wellFormed}
-use Rattle.image.specs.Calls.{Writing, writing, writeRefusal, write, Reading, reading, readRefusal, read}
+use Rattle.image_layout.proofs.Rows.{whole-length}
+use Rattle.image_layout.specs.Layout.{ofBlocks, kinds, startOf, headsIn}
+use Rattle.image.specs.Calls.{Writing, writing, writeRefusal, write, Reading, reading, readRefusal, readBy, read}
 use Rattle.image.specs.Image.{shapeOf, Lengths, image, recordIn, stateIn}
-use Rattle.image.specs.Layout.{ofBlocks, kinds, startOf, headsIn}
 use Rattle.image.specs.Refusal.{writeNumber, contentNumber, recordChecks, recordsNumber, readNumber}
 use Rattle.image.specs.Types.{Shape}
-use Rattle.image.proofs.Rows.{whole-length}
 
 last-check : (n : ℕ) (applies : Bool) → firstThatApplies (check n applies ∷ []) ≡ cond applies (some n) none
 unfolding firstThatApplies
@@ -139,13 +138,12 @@ unfolding readNumber sizesNumber recordsNumber
 read-number l room bytes = first-after (sizeChecks fixedPart room bytes (length l)) (recordChecks (ofBlocks (bytes / 64)) l)
 
 module _ (l registers memory : List ℕ) where
-  pub read-refused : (n : ℕ) → readRefusal l registers memory ≡ some n → reading (refused n) (state zeroed registers memory) ≡ read l registers memory
+  pub read-by : (o : Option ℕ) → readRefusal l registers memory ≡ o → readBy o (shapeOf memory) l registers memory ≡ read l registers memory
   unfolding read
-  read-refused n h = rw h
+  read-by o h = rw h
 
   pub read-taken : readRefusal l registers memory ≡ none → reading (given tt) (stateIn (shapeOf memory) l) ≡ read l registers memory
-  unfolding read
-  read-taken h = rw h
+  read-taken = read-by none
 
 pub read-sized : (l : List ℕ) (room bytes : ℕ) → readNumber l room bytes ≡ none → (sizesNumber fixedPart room bytes (length l) ≡ none) × (recordsNumber (ofBlocks (bytes / 64)) l ≡ none)
 read-sized l room bytes h = either-given (sizesNumber fixedPart room bytes (length l)) _ (sym (read-number l room bytes) ∙ h)

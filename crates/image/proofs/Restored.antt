@@ -9,6 +9,11 @@ use lib.Seq.{take-at, drop-at, drop-drop, getD-take}
 use Rattle.answer.specs.Answer.{Answer, given, refused}
 use Rattle.machine.specs.State.{scalarPlace, lanePlace}
 use Rattle.machine.specs.State.{State, state}
+use Rattle.image_layout.proofs.Parts.{cut-take, joined-same, read-joined, piece-even}
+use Rattle.image_layout.proofs.Table.{laid-back}
+use Rattle.image_layout.proofs.Tests.{all-elim}
+use Rattle.image_layout.specs.Join.{joined, allBelow}
+use Rattle.image_layout.specs.Layout.{ofBlocks, kinds, rowOf, orderOf, startOf, bodyPlace, bodyAt, bodyIn, laidOut, headsIn}
 use Rattle.image.proofs.Numbers.{exact}
 use Rattle.machine.proofs.Tests.{never}
 use Rattle.image.specs.Fields.{fieldsOf}
@@ -16,13 +21,8 @@ use Rattle.machine.specs.Machine.{zeroThread}
 use Rattle.image.specs.Bytes.{wordBytes, byteWord, bytesOf, wordsOf}
 use Rattle.image.specs.Claims.{Words, Bytes}
 use Rattle.image.specs.Image.{fieldBytes, bodyOf, image, fieldsIn, isEntry, entryOr, entryIn, threadsIn, machineIn, roomIn, registersIn, memoryIn, stateIn}
-use Rattle.image.specs.Join.{joined, allBelow}
-use Rattle.image.specs.Layout.{ofBlocks, kinds, rowOf, orderOf, startOf, bodyPlace, bodyAt, bodyIn, laidOut, headsIn}
 use Rattle.image.specs.Types.{Kind, Hd, Th, Sr, Vr, Mm, Shape, Thread}
-use Rattle.image.proofs.Parts.{cut-take, joined-same, read-joined, piece-even}
 use Rattle.image.proofs.Rooms.{room-length, body-size, memory-length}
-use Rattle.image.proofs.Table.{laid-back}
-use Rattle.image.proofs.Tests.{all-elim}
 use Rattle.image.proofs.Words.{words-bytes, words-length, part-bound, four-of}
 
 -- Lists.

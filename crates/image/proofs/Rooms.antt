@@ -5,13 +5,13 @@ use mathlib.Core.Path.{_≡_, sym, ap, _∙_}
 use native.Mathlib.Omega.{arith}
 use lib.ListN.{length, take, drop, length-append, length-drop}
 use lib.Seq.{length-take-le}
+use Rattle.image_layout.proofs.Join.{grown-more, grown-whole, length-even}
+use Rattle.image_layout.proofs.Parts.{joined-same}
+use Rattle.image_layout.specs.Join.{joined, Grown}
+use Rattle.image_layout.specs.Layout.{rowOf, kinds, orderOf, startOf, bodyPlace, bodyAt, bodyIn}
 use Rattle.image.specs.Bytes.{wordsOf}
 use Rattle.image.specs.Image.{roomIn, registersIn, memoryIn}
-use Rattle.image.specs.Join.{joined, Grown}
-use Rattle.image.specs.Layout.{rowOf, kinds, orderOf, startOf, bodyPlace, bodyAt, bodyIn}
 use Rattle.image.specs.Types.{Sr, Vr, Mm, Shape, Kind}
-use Rattle.image.proofs.Join.{grown-more, grown-whole, length-even}
-use Rattle.image.proofs.Parts.{joined-same}
 use Rattle.image.proofs.RecordIn.{body-room}
 use Rattle.image.proofs.Words.{words-cut, words-length}
 

@@ -13,16 +13,16 @@ use Rattle.machine.specs.State.{State, state}
 use Rattle.machine.proofs.Tests.{both}
 use Rattle.machine.specs.Machine.{zeroed}
 use Rattle.machine.specs.WellFormed.{wellFormed}
+use Rattle.image_layout.specs.Join.{allBelow}
+use Rattle.image_layout.specs.Layout.{ofBlocks, headsIn}
 use Rattle.image.specs.Calls.{writing, writeRefusal, write, reading, readRefusal, read}
 use Rattle.image.specs.Claims.{Bytes, WrittenThenRead, ReadThenWritten, Sound, ImageOf, ReadsExactly}
 use Rattle.image.specs.Image.{shapeOf, image, isEntry, entryIn, machineIn, recordIn, stateIn}
-use Rattle.image.specs.Join.{allBelow}
-use Rattle.image.specs.Layout.{ofBlocks, headsIn}
 use Rattle.image.specs.Refusal.{recordsNumber}
 use Rattle.image.proofs.Refusals.{Sized, sized, sizes-none, long, lengths, room-words, words-room, length-good, write-good, write-taken, records-none, records-good, read-number, read-sized, read-taken}
 use Rattle.image.proofs.Restored.{image-back, registers-bound}
 use Rattle.image.proofs.Rooms.{registers-length, memory-length}
-use Rattle.image.proofs.Rows.{image-length}
+use Rattle.image.proofs.Bodies.{image-length}
 use Rattle.image.proofs.Written.{heads-back, record-back, state-back}
 
 -- a call that is not refused got no number

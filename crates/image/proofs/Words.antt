@@ -6,10 +6,10 @@ use native.Mathlib.Nat.{div-add-mod', div-div-eq-div-mul, mod-eq-of-lt}
 use native.Mathlib.Omega.{arith}
 use lib.ListN.{length, getD, take, drop, set, length-drop}
 use lib.Seq.{getD-drop, getD-take, length-take-le, drop-drop, take-all}
+use Rattle.image_layout.proofs.Join.{grown-none, grown-one, grown-more, grown-same, grown-join, length-even}
+use Rattle.image_layout.proofs.Parts.{joined-same, joined-read, read-joined, piece-even, pieces-even, cut-take}
+use Rattle.image_layout.specs.Join.{joined, Grown}
 use Rattle.image.specs.Bytes.{wordBytes, byteWord, bytesOf, wordsOf}
-use Rattle.image.specs.Join.{joined, Grown}
-use Rattle.image.proofs.Join.{grown-none, grown-one, grown-more, grown-same, grown-join, length-even}
-use Rattle.image.proofs.Parts.{joined-same, joined-read, read-joined, piece-even, pieces-even, cut-take}
 
 -- One word.
 

@@ -10,6 +10,12 @@ use lib.Seq.{take-all, take-add, getD-drop}
 use Rattle.answer.specs.Answer.{given}
 use Rattle.machine.specs.State.{scalarPlace, lanePlace}
 use Rattle.machine.specs.State.{State, state}
+use Rattle.image_layout.proofs.Join.{fits-in}
+use Rattle.image_layout.proofs.Parts.{joined-same, joined-read, pieces-even}
+use Rattle.image_layout.proofs.Table.{laid-body, laid-heads}
+use Rattle.image_layout.proofs.Tests.{two, all-intro}
+use Rattle.image_layout.specs.Join.{joined, allBelow}
+use Rattle.image_layout.specs.Layout.{rowOf, bodyIn, headsIn}
 use Rattle.image.proofs.Numbers.{exact}
 use Rattle.image.specs.Fields.{fieldsOf}
 use Rattle.machine.specs.Machine.{zeroThread}
@@ -19,14 +25,8 @@ use Rattle.machine.specs.WellFormed.{wellFormed}
 use Rattle.image.specs.Bytes.{bytesOf, wordsOf}
 use Rattle.image.specs.Claims.{Words}
 use Rattle.image.specs.Image.{shapeOf, Lengths, bodyOf, image, fieldsIn, isEntry, entryOr, entryIn, threadsIn, machineIn, recordIn, roomIn, registersIn, memoryIn, stateIn}
-use Rattle.image.specs.Join.{joined, allBelow}
-use Rattle.image.specs.Layout.{rowOf, bodyIn, headsIn}
 use Rattle.image.specs.Types.{Kind, Hd, Th, Sr, Vr, Mm, Shape, Machine, Thread}
-use Rattle.image.proofs.Join.{fits-in}
-use Rattle.image.proofs.Parts.{joined-same, joined-read, pieces-even}
-use Rattle.image.proofs.Rows.{body-length}
-use Rattle.image.proofs.Table.{laid-body, laid-heads}
-use Rattle.image.proofs.Tests.{two, all-intro}
+use Rattle.image.proofs.Bodies.{body-length}
 use Rattle.image.proofs.Words.{words-back}
 
 -- A well-formed record has eight entries.

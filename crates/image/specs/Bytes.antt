@@ -2,7 +2,7 @@
 use Prim.Native.Nat.{ℕ, _+_, _*_, _/_, _%_}
 use mathlib.Core.List.{List, [], _∷_}
 use lib.ListN.{getD, take, drop}
-use Rattle.image.specs.Join.{joined}
+use Rattle.image_layout.specs.Join.{joined}
 
 -- the bytes of a word, and the word of bytes
 abbrev pub wordBytes : ℕ → List ℕ

@@ -10,7 +10,7 @@ use Rattle.machine.specs.Machine.{zeroed}
 use Rattle.image.specs.Answer.{writeAnswered, readAnswered}
 use Rattle.image.specs.Image.{shapeOf, image, stateIn}
 use Rattle.image.specs.Refusal.{writeNumber, readNumber}
-use Rattle.image.specs.Types.{WriteAnswer, Read}
+use Rattle.image.specs.Types.{Shape, WriteAnswer, Read}
 
 -- Writing: the answer, and the buffer left.
 
@@ -49,8 +49,9 @@ abbrev pub readRefusal : List ℕ → List ℕ → List ℕ → Option ℕ
 readRefusal l registers memory = readNumber l (length registers) (length memory)
 
 -- "A refusal changes no lent buffer .. start and image reading, which get none, hand back a record with every number 0."
+abbrev pub readBy : Option ℕ → Shape → List ℕ → List ℕ → List ℕ → Reading
+readBy number a l registers memory =
+    refusedOr number (λ n. reading (refused n) (state zeroed registers memory)) (reading (given tt) (stateIn a l))
+
 unfoldable pub read : List ℕ → List ℕ → List ℕ → Reading
-read l registers memory =
-    refusedOr (readRefusal l registers memory)
-    (λ number. reading (refused number) (state zeroed registers memory))
-    (reading (given tt) (stateIn (shapeOf memory) l))
+read l registers memory = readBy (readRefusal l registers memory) (shapeOf memory) l registers memory

@@ -10,10 +10,10 @@ use Rattle.answer.specs.Answer.{given}
 use Rattle.answer.specs.Refusal.{roomWords, badMemory, fixedPart, imageLength}
 use Rattle.machine.specs.State.{State}
 use Rattle.machine.specs.WellFormed.{wellFormed}
+use Rattle.image_layout.specs.Layout.{kinds, rowOf, orderOf, startOf, bodyIn}
 use Rattle.image.specs.Calls.{writing, write, reading, read}
 use Rattle.image.specs.Fields.{fieldsOf, threadOf}
 use Rattle.image.specs.Image.{shapeOf, bodyOf, image}
-use Rattle.image.specs.Layout.{kinds, rowOf, orderOf, startOf, bodyIn}
 use Rattle.image.specs.Opening.{recordBytes, recordLength, opened, readOpening}
 use Rattle.image.specs.Types.{Kind, Hd, Th, Sr, Vr, Mm, Machine, Thread, Fields}
 

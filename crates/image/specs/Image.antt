@@ -10,10 +10,10 @@ use Rattle.machine.specs.State.{scalarPlace, lanePlace}
 use Rattle.machine.specs.State.{State, state}
 use Rattle.machine.specs.Machine.{zeroThread}
 use Rattle.machine.specs.WellFormed.{wellFormed}
+use Rattle.image_layout.specs.Join.{joined, allBelow}
+use Rattle.image_layout.specs.Layout.{ofBlocks, rowOf, laidOut, bodyIn}
 use Rattle.image.specs.Bytes.{bytesOf, wordsOf}
 use Rattle.image.specs.Fields.{fields, fieldsOf, threadOf}
-use Rattle.image.specs.Join.{joined, allBelow}
-use Rattle.image.specs.Layout.{ofBlocks, rowOf, laidOut, bodyIn}
 use Rattle.image.specs.Types.{Kind, Hd, Th, Sr, Vr, Mm, Shape, Machine, Thread, Fields}
 
 -- the shape of an image goes by the length of the memory

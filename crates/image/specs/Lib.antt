@@ -1,7 +1,5 @@
 -- The saved image: what the contracts cite.
 pub mod Types
-pub mod Join
-pub mod Layout
 pub mod Bytes
 pub mod Fields
 pub mod Image

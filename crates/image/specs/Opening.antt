@@ -5,8 +5,8 @@ use mathlib.Core.Option.{Option}
 use Rattle.answer.specs.Refusal.{Check, firstThatApplies, numbered, refusedOr}
 use Rattle.machine.specs.State.{state}
 use Rattle.machine.specs.Machine.{zeroed}
+use Rattle.image_layout.specs.Layout.{ofBlocks, recordKinds, laidUpTo, headsUpTo}
 use Rattle.image.specs.Image.{bodyOf, machineIn, recordIn}
-use Rattle.image.specs.Layout.{ofBlocks, recordKinds, laidUpTo, headsUpTo}
 use Rattle.image.specs.Refusal.{contentChecks}
 use Rattle.image.specs.Types.{Shape, Machine, Judgement}
 

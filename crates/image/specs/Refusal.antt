@@ -7,8 +7,8 @@ use lib.ListN.{length}
 use Rattle.answer.specs.Answer.{bad-record, bad-image}
 use Rattle.answer.specs.Refusal.{fixedPart, Check, check, firstThatApplies, sizeChecks}
 use Rattle.machine.specs.WellFormed.{wellFormed}
+use Rattle.image_layout.specs.Layout.{ofBlocks, headsIn}
 use Rattle.image.specs.Image.{recordIn}
-use Rattle.image.specs.Layout.{ofBlocks, headsIn}
 use Rattle.image.specs.Types.{Shape, Machine}
 
 -- "The writer's buffer has exactly the image's length (else 9).": with a record

@@ -1,12 +1,8 @@
 -- The types that the code declares, and those of the crates below, under one roof.
-pub use Rattle.image.specs.declared.layout.Kind.{Kind}
-pub use Rattle.image.specs.declared.layout.Kind.the-variants.{Hd, Th, Sr, Vr, Mm}
-pub use Rattle.image.specs.declared.layout.Places.{Places}
-pub use Rattle.image.specs.declared.layout.Places.the-variants.{Nothing, ByThread, ByRegister, ByBlock}
-pub use Rattle.image.specs.declared.layout.Shape.{Shape}
-pub use Rattle.image.specs.declared.layout.Row.{Row}
+pub use Rattle.image_layout.specs.declared.layout.Kind.{Kind}
+pub use Rattle.image_layout.specs.declared.layout.Kind.the-variants.{Hd, Th, Sr, Vr, Mm}
+pub use Rattle.image_layout.specs.declared.layout.Shape.{Shape}
 pub use Rattle.image.specs.declared.verdicts.Judgement.{Judgement}
-pub use Rattle.image.specs.declared.entries.Record.{Record}
 pub use Rattle.image.specs.declared.fields.Fields.{Fields}
 pub use Rattle.image.specs.declared.fields.EntryReading.{EntryReading}
 pub use Rattle.image.specs.declared.fields.EntryReading.the-variants.{Entry, Refused as EntryRefused}

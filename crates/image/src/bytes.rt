@@ -2,8 +2,8 @@
 ghost use Prim.Native.Nat.{_+_, _*_, _<_, _≤_};
 ghost use mathlib.Core.Path.{_≡_};
 ghost use lib.ListN.{length, getD, take, drop};
+ghost use Rattle.image_layout.specs.Join.{Grown};
 ghost use Rattle.image.specs.Bytes.{wordBytes, byteWord, bytesOf, wordsOf};
-ghost use Rattle.image.specs.Join.{Grown};
 
 // A word stored from a place on, the lowest byte first.
 fn put_word(word: u32, buffer: &mut [u8], at: usize)

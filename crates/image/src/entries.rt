@@ -2,19 +2,19 @@
 ghost use Prim.Native.Nat.{_+_, _≤_};
 ghost use mathlib.Core.Path.{_≡_};
 ghost use lib.ListN.{length, take, drop};
+ghost use Rattle.image_layout.specs.Join.{allBelow};
+ghost use Rattle.image_layout.specs.Layout.{recordKinds, startOf};
 ghost use Rattle.image.specs.Answer.{entryAnswered};
 ghost use Rattle.image.specs.Fields.{threadOf};
 ghost use Rattle.image.specs.Image.{fieldsIn, isEntry, entryOr, entryIn, threadsIn, machineIn, recordIn};
-ghost use Rattle.image.specs.Join.{allBelow};
-ghost use Rattle.image.specs.Layout.{recordKinds, startOf};
 use crate::fields::EntryReading;
 use crate::fields::Fields;
 use crate::fields::read_entry;
-use crate::layout::Kind;
-use crate::layout::Shape;
-use crate::layout::first_body;
-use crate::layout::record_size;
-use crate::layout::row_of;
+use image_layout::Kind;
+use image_layout::Shape;
+use image_layout::first_body;
+use image_layout::record_size;
+use image_layout::row_of;
 use machine::Machine;
 use machine::Status;
 use machine::Thread;
@@ -66,7 +66,7 @@ fn entry_at(image: &[u8], at: usize) -> EntryReading
 
 // The eight entries.
 fn entries_in(shape: Shape, image: &[u8]) -> Entries
-    requires { ⌜ (shape .blocks ≤ 1024) × (startOf shape recordKinds ≤ length (now image)) ⌝ }
+    requires { ⌜ startOf shape recordKinds ≤ length (now image) ⌝ }
     ensures { λ r. ⌜ (r .read ≡ allBelow 8 (λ t. isEntry (entryIn shape (now (image .entry)) t))) × (r .threads ≡ threadsIn shape (now (image .entry))) ⌝ }
 {
     let zero = Thread::of_status(Status::Idle);
@@ -86,7 +86,7 @@ fn entries_in(shape: Shape, image: &[u8]) -> Entries
 
 // The machine record.
 pub fn record_in(shape: Shape, image: &[u8]) -> Record
-    requires { ⌜ (shape .blocks ≤ 1024) × (startOf shape recordKinds ≤ length (now image)) ⌝ }
+    requires { ⌜ startOf shape recordKinds ≤ length (now image) ⌝ }
     ensures { λ r. ⌜ (r .accepted ≡ recordIn shape (now (image .entry))) × (r .machine ≡ machineIn shape (now (image .entry))) ⌝ }
 {
     let at = first_body(shape, Kind::Hd);

@@ -1,16 +1,17 @@
-// What a record opens with: its mark and place numbers, written and checked.
+// What records open with: their marks and place numbers, written and checked.
 ghost use Prim.Native.Nat.{_+_, _≤_};
 ghost use mathlib.Core.Path.{_≡_};
 ghost use lib.ListN.{length};
-ghost use Rattle.image.specs.Join.{Grown};
-ghost use Rattle.image.specs.Layout.{kinds, placesOf, placesLength, Numbered, headLength, headOf, extentOf, startOf, standsAt, headsOf, headsUpTo};
-use crate::layout::Places;
-use crate::layout::Row;
-use crate::layout::Shape;
-use crate::layout::extent_of;
-use crate::layout::kind_at;
-use crate::layout::record_size;
-use crate::layout::row_of;
+ghost use Rattle.image_layout.specs.Join.{Grown};
+ghost use Rattle.image_layout.specs.Layout.{placesOf, placesLength, Numbered, headLength, headOf, extentOf, startOf, headsOf, headsUpTo};
+use image_layout::Places;
+use image_layout::Row;
+use image_layout::Shape;
+use image_layout::extent_of;
+use image_layout::head_stands;
+use image_layout::kind_at;
+use image_layout::record_size;
+use image_layout::row_of;
 
 // The place numbers of record i stored from a place on; the next place.
 fn put_places(places: Places, i: usize, buffer: &mut [u8], at: usize) -> usize
@@ -47,32 +48,9 @@ pub fn put_head(row: Row, i: usize, buffer: &mut [u8], at: usize) -> usize
     put_places(places, i, buffer, at + 2)
 }
 
-// Whether the place numbers of record i stand at a place.
-fn places_stand(places: Places, i: usize, image: &[u8], at: usize) -> bool
-    requires { ⌜ at + placesLength places ≤ length (now image) ⌝ }
-    ensures { λ r. ⌜ r ≡ standsAt (placesOf places i) (now (image .entry)) at ⌝ }
-{
-    match places {
-        Places::Nothing => true,
-        Places::ByThread => image[at] as usize == i,
-        Places::ByRegister => (image[at] as usize == i / 64) & (image[at + 1] as usize == i % 64),
-        Places::ByBlock => (image[at] as usize == i % 256) & (image[at + 1] as usize == i / 256),
-    }
-}
-
-// Whether record i opens with its mark and place numbers.
-fn head_stands(row: Row, i: usize, image: &[u8], at: usize) -> bool
-    requires { ⌜ at + headLength (row .places) ≤ length (now image) ⌝ }
-    ensures { λ r. ⌜ r ≡ standsAt (headOf row i) (now (image .entry)) at ⌝ }
-{
-    let places = row.places;
-    let placed = places_stand(places, i, image, at + 2);
-    (image[at] == row.first) & (image[at + 1] == row.second) & placed
-}
-
 // Whether every record of a row that begins at a place opens so.
 fn heads_stand(row: Row, image: &[u8], at: usize) -> bool
-    requires { ⌜ (row .size ≤ 65536) × (at + extentOf row ≤ length (now image)) ⌝ }
+    requires { ⌜ at + extentOf row ≤ length (now image) ⌝ }
     ensures { λ r. ⌜ r ≡ headsOf row (now (image .entry)) at ⌝ }
 {
     let count = row.count;
@@ -90,7 +68,7 @@ fn heads_stand(row: Row, image: &[u8], at: usize) -> bool
 
 // Whether every mark and every place number of the first n kinds is right.
 pub fn kinds_stand(shape: Shape, n: usize, image: &[u8]) -> bool
-    requires { ⌜ (shape .blocks ≤ 1024) × (n ≤ kinds) × (startOf shape n ≤ length (now image)) ⌝ }
+    requires { ⌜ startOf shape n ≤ length (now image) ⌝ }
     ensures { λ r. ⌜ r ≡ headsUpTo n shape (now (image .entry)) ⌝ }
 {
     let mut at: usize = 0;

@@ -3,7 +3,6 @@ mod bytes;
 mod entries;
 mod fields;
 mod heads;
-mod layout;
 mod opening;
 mod outcome;
 mod reading;

@@ -4,12 +4,12 @@ ghost use lib.ListN.{length};
 ghost use Rattle.image.specs.Opening.{recordBytes, recordLength, judged, readOpening};
 use crate::entries::record_in;
 use crate::heads::kinds_stand;
-use crate::layout::Kind;
-use crate::layout::RECORD_KINDS;
-use crate::layout::Shape;
 use crate::verdicts::Judgement;
 use crate::verdicts::judge_content;
 use crate::writing::put_section;
+use image_layout::Kind;
+use image_layout::RECORD_KINDS;
+use image_layout::Shape;
 use machine::Machine;
 
 // How many bytes a machine record has.

@@ -3,25 +3,29 @@ ghost use Prim.Native.Nat.{_+_, _*_, _≤_};
 ghost use mathlib.Core.Path.{_≡_};
 ghost use lib.ListN.{length};
 ghost use Rattle.answer.specs.Refusal.{roomWords};
-ghost use Rattle.image.specs.Calls.{restored, read};
-ghost use Rattle.image.specs.Image.{roomIn, registersIn, memoryIn};
-ghost use Rattle.image.specs.Join.{Grown};
-ghost use Rattle.image.specs.Layout.{rowOf, kinds, startOf};
+ghost use Rattle.image_layout.specs.Join.{Grown};
+ghost use Rattle.image_layout.specs.Layout.{rowOf, kinds, startOf};
+ghost use Rattle.image.specs.Calls.{restored, readBy, read};
+ghost use Rattle.image.specs.Image.{Lengths, roomIn, registersIn, memoryIn};
+ghost use Rattle.image.specs.Refusal.{recordsNumber};
 use crate::bytes::copy_eights;
 use crate::bytes::take_words;
-use crate::layout::Kind;
-use crate::layout::Shape;
-use crate::layout::first_body;
-use crate::layout::record_size;
-use crate::layout::row_of;
 use crate::outcome::Read;
 use crate::outcome::ReadAnswer;
-use crate::verdicts::judge;
+use crate::verdicts::judge_records;
+use answer::FIXED_PART;
 use answer::Verdict;
+use answer::sizes_verdict;
+use image_layout::Kind;
+use image_layout::Shape;
+use image_layout::first_body;
+use image_layout::record_size;
+use image_layout::row_of;
+use machine::Machine;
 
 // The words of every record of a kind, n in each, stored from a place on.
 fn take_room(shape: Shape, kind: Kind, n: usize, image: &[u8], registers: &mut [u32], from: usize)
-    requires { ⌜ (shape .blocks ≤ 1024) × (startOf shape kinds ≤ length (now image)) × (rowOf shape kind .size ≡ 4 * n) × (from + n * rowOf shape kind .count ≤ length (now registers)) ⌝ }
+    requires { ⌜ (startOf shape kinds ≤ length (now image)) × (rowOf shape kind .size ≡ 4 * n) × (from + n * rowOf shape kind .count ≤ length (now registers)) ⌝ }
     ensures { λ _. ⌜ Grown (now (registers .entry)) (now (registers .exit)) from (from + n * rowOf shape kind .count) (roomIn shape (now (image .entry)) kind n) ⌝ }
 {
     let row = row_of(shape, kind);
@@ -38,7 +42,7 @@ fn take_room(shape: Shape, kind: Kind, n: usize, image: &[u8], registers: &mut [
 
 // The register room: SR holds its first 512 words, VR the rest.
 fn take_registers(shape: Shape, image: &[u8], registers: &mut [u32])
-    requires { ⌜ (shape .blocks ≤ 1024) × (startOf shape kinds ≤ length (now image)) × (length (now registers) ≡ roomWords) ⌝ }
+    requires { ⌜ (startOf shape kinds ≤ length (now image)) × (length (now registers) ≡ roomWords) ⌝ }
     ensures { λ _. ⌜ now (registers .exit) ≡ registersIn shape (now (image .entry)) ⌝ }
 {
     take_room(shape, Kind::Sr, 64, image, registers, 0);
@@ -47,7 +51,7 @@ fn take_registers(shape: Shape, image: &[u8], registers: &mut [u32])
 
 // The memory.
 fn take_memory(shape: Shape, image: &[u8], memory: &mut [u8])
-    requires { ⌜ (shape .blocks ≤ 1024) × (startOf shape kinds ≤ length (now image)) × (length (now memory) ≡ 64 * shape .blocks) ⌝ }
+    requires { ⌜ (startOf shape kinds ≤ length (now image)) × (length (now memory) ≡ 64 * shape .blocks) ⌝ }
     ensures { λ _. ⌜ now (memory .exit) ≡ memoryIn shape (now (image .entry)) ⌝ }
 {
     let row = row_of(shape, Kind::Mm);
@@ -62,14 +66,12 @@ fn take_memory(shape: Shape, image: &[u8], memory: &mut [u8])
     }
 }
 
-// The machine that an image holds is restored: its registers and memory into lent ones.
-pub fn read(image: &[u8], registers: &mut [u32], memory: &mut [u8]) -> Read
-    ensures { λ r. ⌜ restored r (now (registers .exit)) (now (memory .exit)) ≡ read (now (image .entry)) (now (registers .entry)) (now (memory .entry)) ⌝ }
+// The machine that an image of the right length holds is restored: its registers and memory into lent ones.
+fn read_sized(shape: Shape, image: &[u8], registers: &mut [u32], memory: &mut [u8]) -> Read
+    requires { ⌜ Lengths shape (now registers) (now memory) × (startOf shape kinds ≤ length (now image)) ⌝ }
+    ensures { λ r. ⌜ restored r (now (registers .exit)) (now (memory .exit)) ≡ readBy (recordsNumber shape (now (image .entry))) shape (now (image .entry)) (now (registers .entry)) (now (memory .entry)) ⌝ }
 {
-    let shape = Shape {
-        blocks: memory.len() / 64,
-    };
-    let judgement = judge(shape, image, registers.len(), memory.len());
+    let judgement = judge_records(shape, image);
     let verdict = judgement.verdict;
     let machine = judgement.machine;
     match verdict {
@@ -84,6 +86,25 @@ pub fn read(image: &[u8], registers: &mut [u32], memory: &mut [u8]) -> Read
                 answer: ReadAnswer::Restored,
                 machine,
             }
+        }
+    }
+}
+
+// The machine that an image holds is restored, if the lengths are right.
+pub fn read(image: &[u8], registers: &mut [u32], memory: &mut [u8]) -> Read
+    ensures { λ r. ⌜ restored r (now (registers .exit)) (now (memory .exit)) ≡ read (now (image .entry)) (now (registers .entry)) (now (memory .entry)) ⌝ }
+{
+    let sizes = sizes_verdict(FIXED_PART, registers.len(), memory.len(), image.len());
+    match sizes {
+        Verdict::Refused(number) => Read {
+            answer: ReadAnswer::Refused(number),
+            machine: Machine::zero(),
+        },
+        Verdict::Accepted => {
+            let shape = Shape {
+                blocks: (memory.len() / 64) as u16,
+            };
+            read_sized(shape, image, registers, memory)
         }
     }
 }

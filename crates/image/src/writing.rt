@@ -3,24 +3,24 @@ ghost use Prim.Native.Nat.{_+_, _<_, _≤_};
 ghost use mathlib.Core.Path.{_≡_};
 ghost use lib.ListN.{length};
 ghost use Rattle.machine.specs.State.{state};
+ghost use Rattle.image_layout.specs.Join.{Grown};
+ghost use Rattle.image_layout.specs.Layout.{rowOf, kinds, recordSize, extentOf, recordOf, sectionOf, laidOut, startOf};
 ghost use Rattle.image.specs.Calls.{written, write};
 ghost use Rattle.image.specs.Image.{Lengths, Suits, fieldBytes, bodyOf};
-ghost use Rattle.image.specs.Join.{Grown};
-ghost use Rattle.image.specs.Layout.{rowOf, kinds, recordSize, extentOf, recordOf, sectionOf, laidOut, startOf};
 use crate::bytes::copy_eights;
 use crate::bytes::put_words;
 use crate::fields::Fields;
 use crate::fields::fields_of;
 use crate::heads::put_head;
-use crate::layout::KINDS;
-use crate::layout::Kind;
-use crate::layout::Shape;
-use crate::layout::kind_at;
-use crate::layout::row_of;
 use crate::outcome::WriteAnswer;
 use answer::FIXED_PART;
 use answer::Verdict;
 use answer::sizes_verdict;
+use image_layout::KINDS;
+use image_layout::Kind;
+use image_layout::Shape;
+use image_layout::kind_at;
+use image_layout::row_of;
 use machine::Machine;
 
 // An entry's numbers stored from a place on.
@@ -147,7 +147,7 @@ pub fn write(registers: &[u32], memory: &[u8], machine: Machine, buffer: &mut [u
                 return WriteAnswer::Refused(4);
             }
             let shape = Shape {
-                blocks: memory.len() / 64,
+                blocks: (memory.len() / 64) as u16,
             };
             put_image(shape, registers, memory, machine, buffer);
             WriteAnswer::Written

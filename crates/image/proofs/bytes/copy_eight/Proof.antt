@@ -11,7 +11,7 @@ use lib.ListN.{length, set, getD, length-set}
 use mir.Syntax.{w64}
 use mir.Val.{Fits}
 use native.Mathlib.Omega.{arith}
-use Rattle.image.proofs.Join.{grown-eight}
+use Rattle.image_layout.proofs.Join.{grown-eight}
 use Rattle.image.proofs.bytes.copy_eight.Statement.{statement}
 use Rattle.image.proofs.bytes.copy_eight.Tie as tie
 

@@ -2,8 +2,8 @@
 use Prim.Native.Nat.{_+_, _*_, _-_, _≤_}
 use mathlib.Core.Path.{_≡_}
 use lib.ListN.{take, drop}
-use Rattle.image.specs.Join.{Grown}
-use Rattle.image.proofs.Join.{grown-none, grown-same, grown-eights}
+use Rattle.image_layout.specs.Join.{Grown}
+use Rattle.image_layout.proofs.Join.{grown-none, grown-same, grown-eights}
 use native.Mathlib.Omega.{arith}
 use borrow.Author.Needs.{needs}
 use Rattle.image.proofs.bytes.copy_eights.Statement.{statement}

@@ -5,14 +5,14 @@ use mathlib.Core.List.{[], _∷_}
 use mathlib.Core.Path.{_≡_, refl, sym, ap, _∙_}
 use native.Mathlib.Nat.{mul-suc}
 use native.Mathlib.Numerals.{add-one}
+use Rattle.image_layout.proofs.Join.{grown-start, grown-join, grown-one, grown-new, grown-end}
+use Rattle.image_layout.proofs.Rows.{th-order}
+use Rattle.image_layout.proofs.Tests.{all-none, all-next}
+use Rattle.image_layout.specs.Join.{joined, allBelow, Grown}
+use Rattle.image_layout.specs.Layout.{recordKinds, recordSize}
 use Rattle.image.specs.Image.{isEntry, entryOr}
-use Rattle.image.specs.Join.{joined, allBelow, Grown}
-use Rattle.image.specs.Layout.{recordKinds, recordSize}
 use Rattle.image.specs.Types.{Th}
-use Rattle.image.proofs.Join.{grown-start, grown-join, grown-one, grown-new, grown-end}
 use Rattle.image.proofs.RecordIn.{fixed-place, body-room-in, entryAt, entries-read, threads-read}
-use Rattle.image.proofs.Rows.{th-order}
-use Rattle.image.proofs.Tests.{all-none, all-next}
 use native.Mathlib.Omega.{arith}
 use borrow.Author.Needs.{needs}
 use Rattle.image.proofs.entries.entries_in.Statement.{statement}
@@ -29,14 +29,14 @@ entry-at-requires c κs =
     let a = c .before .before .before .before .before .before .before .args in
     let place = fixed-place (a .shape) Th (c .before .before .first-body .result) (c .before .before .before .record-size .result) (c .before .before .first-body .ensures) (c .before .before .before .record-size .ensures ∙ ap recordSize (c .before .before .before .before .row-of .ensures)) in
     let l = c .before .loop in
-    omega (arith, l .inv .1, place (l .t), body-room-in (a .shape) Th recordKinds (l .t) _ (omega (arith, th-order)) (c .loop-test .taken) (c .before .before .before .before .before .before .before .pre .1))
+    omega (arith, l .inv .1, place (l .t), body-room-in (a .shape) Th recordKinds (l .t) _ (omega (arith, th-order)) (c .loop-test .taken) (c .before .before .before .before .before .before .before .pre))
 
 add-at : tie.Need-add-at Inv-loop μ-loop
 add-at c =
     let a = c .before .before .before .before .before .before .before .before .before .before .args in
     let place = fixed-place (a .shape) Th (c .before .before .before .before .before .first-body .result) (c .before .before .before .before .before .before .record-size .result) (c .before .before .before .before .before .first-body .ensures) (c .before .before .before .before .before .before .record-size .ensures ∙ ap recordSize (c .before .before .before .before .before .before .before .row-of .ensures)) in
     let l = c .before .before .before .before .loop in
-    omega (arith, l .inv .1, place (l .t), c .before .before .before .before .before .before .record-size .ensures ∙ ap recordSize (c .before .before .before .before .before .before .before .row-of .ensures), body-room-in (a .shape) Th recordKinds (l .t) _ (omega (arith, th-order)) (c .before .before .before .loop-test .taken) (c .before .before .before .before .before .before .before .before .before .before .pre .1))
+    omega (arith, l .inv .1, place (l .t), c .before .before .before .before .before .before .record-size .ensures ∙ ap recordSize (c .before .before .before .before .before .before .before .row-of .ensures), body-room-in (a .shape) Th recordKinds (l .t) _ (omega (arith, th-order)) (c .before .before .before .loop-test .taken) (c .before .before .before .before .before .before .before .before .before .before .pre))
 
 loop-again : tie.Need-loop-again Inv-loop μ-loop
 loop-again c =
@@ -75,8 +75,8 @@ entries-in-spec =
     μ-loop
     (λ c κs. search needs)
     (λ c κs. search needs)
-    (λ c κs. rw (c .row-of .ensures) (omega arith))
-    (λ c κs. c .before .before .before .before .pre .0)
+    (λ c κs. search needs)
+    (λ c κs. search needs)
     (λ c. (omega arith, omega arith, sym (all-none _), grown-start _ 0 _))
     entry-at-requires
     (λ c κs. search needs)

@@ -3,10 +3,10 @@ use Prim.Native.Nat.{_+_, _-_, _≤_}
 use mathlib.Core.Bool.{true}
 use mathlib.Core.Path.{_≡_, sym, ap, _∙_}
 use borrow.Author.Tests.{not-true, not-false}
-use Rattle.image.specs.Join.{allBelow}
-use Rattle.image.specs.Layout.{rowOf, kindAt, extentOf, startOf, headsOf}
-use Rattle.image.proofs.Rows.{size-few, start-none, start-next, start-room}
-use Rattle.image.proofs.Tests.{all-none, all-more, all-less, all-stop}
+use Rattle.image_layout.specs.Join.{allBelow}
+use Rattle.image_layout.specs.Layout.{rowOf, kindAt, extentOf, startOf, headsOf}
+use Rattle.image_layout.proofs.Rows.{start-none, start-next, start-room}
+use Rattle.image_layout.proofs.Tests.{all-none, all-more, all-less, all-stop}
 use native.Mathlib.Omega.{arith}
 use borrow.Author.Needs.{needs}
 use Rattle.image.proofs.heads.kinds_stand.Statement.{statement}
@@ -23,7 +23,7 @@ heads-stand-requires c κs =
     let a = c .before .before .before .before .before .args in
     let l = c .before .before .before .loop in
     let e = c .row-of .ensures ∙ ap (rowOf (a .shape)) (c .before .kind-at .ensures) in
-    rw e (omega (arith, size-few (a .shape) (kindAt (l .position))), omega (arith, l .inv .1, start-room (a .shape) (l .position) (a .n) (c .before .before .loop-test .taken), c .before .before .before .before .before .pre .2))
+    rw e (omega (arith, l .inv .1, start-room (a .shape) (l .position) (a .n) (c .before .before .loop-test .taken), c .before .before .before .before .before .pre))
 
 returns : tie.Need-returns Inv-loop μ-loop
 returns c =
@@ -38,7 +38,7 @@ add-at c =
     let a = c .before .before .before .before .before .before .before .before .args in
     let l = c .before .before .before .before .before .before .loop in
     let e : c .extent-of .result ≡ extentOf (rowOf (a .shape) (kindAt (l .position))) = c .extent-of .ensures ∙ ap (λ k. extentOf (rowOf (a .shape) k)) (c .before .before .before .before .kind-at .ensures) in
-    omega (arith, e, l .inv .1, start-room (a .shape) (l .position) (a .n) (c .before .before .before .before .before .loop-test .taken), c .before .before .before .before .before .before .before .before .pre .2)
+    omega (arith, e, l .inv .1, start-room (a .shape) (l .position) (a .n) (c .before .before .before .before .before .loop-test .taken), c .before .before .before .before .before .before .before .before .pre)
 
 loop-again : tie.Need-loop-again Inv-loop μ-loop
 loop-again c =
@@ -66,11 +66,11 @@ kinds-stand-spec =
     Inv-loop
     μ-loop
     (λ c. (omega arith, start-none (c .before .args .shape), all-none _))
-    (λ c κs. omega (arith, c .loop-test .taken, c .before .before .before .pre .1))
+    (λ c κs. search needs)
     (λ c κs. search needs)
     heads-stand-requires
     returns
-    (λ c κs. c .before .before .before .before .before .before .before .pre .0)
+    (λ c κs. search needs)
     add-at
     (λ c. omega (arith, c .before .before .before .before .before .loop-test .taken))
     (λ c. omega arith)

@@ -1,6 +1,6 @@
 -- `heads::put_places` meets its contract.
 use lib.ListN.{length-set}
-use Rattle.image.proofs.Join.{grown-none, grown-one}
+use Rattle.image_layout.proofs.Join.{grown-none, grown-one}
 use Rattle.image.proofs.Words.{grown-two}
 use native.Mathlib.Omega.{arith}
 use borrow.Author.Needs.{needs}

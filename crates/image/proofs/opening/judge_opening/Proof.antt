@@ -11,10 +11,10 @@ use Rattle.image.proofs.opening.judge_opening.Statement.{statement}
 use Rattle.image.proofs.opening.judge_opening.Tie as tie
 
 kinds-stand-requires : tie.Need-kinds-stand-requires
-kinds-stand-requires c κs = (omega arith, omega arith, omega (arith, opening-start, c .before .pre))
+kinds-stand-requires c κs = omega (arith, opening-start, c .before .pre)
 
 record-in-requires : tie.Need-record-in-requires
-record-in-requires c κs = (omega arith, omega (arith, opening-start, c .before .before .pre))
+record-in-requires c κs = omega (arith, opening-start, c .before .before .pre)
 
 returns : tie.Need-returns
 unfolding readOpening openingNumber contentNumber

@@ -1,8 +1,8 @@
 -- `opening::put_opening` meets its contract.
 use mathlib.Core.Path.{_∙_, sym}
-use Rattle.image.specs.Join.{joined}
+use Rattle.image_layout.proofs.Join.{grown-more, grown-whole}
+use Rattle.image_layout.specs.Join.{joined}
 use Rattle.image.specs.Opening.{recordBytes}
-use Rattle.image.proofs.Join.{grown-more, grown-whole}
 use Rattle.image.proofs.Openings.{hd-length, opening-length}
 use native.Mathlib.Omega.{arith}
 use borrow.Author.Needs.{needs}

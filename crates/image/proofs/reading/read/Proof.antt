@@ -1,52 +1,49 @@
 -- `reading::read` meets its contract.
+use mathlib.Core.Option.{some}
 use mathlib.Core.Path.{sym, ap, _∙_}
 use native.Mathlib.Nat.{le-of-eq}
 use lib.ListN.{length}
-use Rattle.answer.specs.Answer.{given, refused}
+use Rattle.answer.specs.Answer.{refused}
 use Rattle.answer.specs.Refusal.{numbered, refusedOr}
 use Rattle.machine.specs.State.{state}
-use Rattle.machine.specs.Machine.{zeroed}
 use Rattle.image.specs.Calls.{reading}
-use Rattle.image.specs.Image.{shapeOf, machineIn}
+use Rattle.image.specs.Image.{shapeOf}
+use Rattle.image.specs.Refusal.{recordsNumber}
 use Rattle.image.specs.Types.{Machine}
-use Rattle.image.proofs.Refusals.{sized, long, lengths, read-sized, read-refused, read-taken}
+use Rattle.image.proofs.Refusals.{sized, long, lengths, memory-blocks, read-number, read-by}
+use native.Mathlib.Omega.{arith}
 use borrow.Author.Needs.{needs}
 use Rattle.image.proofs.reading.read.Statement.{statement}
 use Rattle.image.proofs.reading.read.Tie as tie
 
-take-registers-requires : tie.Need-take-registers-requires
-take-registers-requires c κs =
-    let a = c .before .before .before .before .before .before .before .before .args in
-    let e = sym (c .before .before .before .before .judge .ensures .0) ∙ ap numbered (c .before .enum-told .given .1) in
-    let k = sized (length (a .registers .now)) (length (a .memory .now)) (length (a .image .now)) (read-sized (a .image .now) (length (a .registers .now)) (length (a .memory .now)) e .0) in
-    let g = le-of-eq (long (length (a .registers .now)) (length (a .memory .now)) (length (a .image .now)) k) in
-    let w = lengths (a .registers .now) (a .memory .now) (length (a .image .now)) k in
-    (w .few, g, w .room)
+cast-t15 : tie.Need-cast-t15
+cast-t15 c =
+    let a = c .before .before .before .before .before .before .args in
+    let k = sized (length (a .registers .now)) (length (a .memory .now)) (length (a .image .now)) (sym (c .before .before .sizes-verdict .ensures) ∙ ap numbered (c .enum-told .given .1)) in
+    omega (arith, memory-blocks (length (a .memory .now)) (k .memory))
 
-take-memory-requires : tie.Need-take-memory-requires
-take-memory-requires c κs =
-    let a = c .before .before .before .before .before .before .before .before .before .before .before .before .args in
-    let e = sym (c .before .before .before .before .before .before .before .before .judge .ensures .0) ∙ ap numbered (c .before .before .before .before .before .enum-told .given .1) in
-    let k = sized (length (a .registers .now)) (length (a .memory .now)) (length (a .image .now)) (read-sized (a .image .now) (length (a .registers .now)) (length (a .memory .now)) e .0) in
-    let g = le-of-eq (long (length (a .registers .now)) (length (a .memory .now)) (length (a .image .now)) k) in
-    let w = lengths (a .registers .now) (a .memory .now) (length (a .image .now)) k in
-    (w .few, g, sym (w .whole))
+read-sized-requires : tie.Need-read-sized-requires
+read-sized-requires c κs =
+    let a = c .before .before .before .before .before .before .before .before .args in
+    let k = sized (length (a .registers .now)) (length (a .memory .now)) (length (a .image .now)) (sym (c .before .before .before .before .sizes-verdict .ensures) ∙ ap numbered (c .before .before .enum-told .given .1)) in
+    (lengths (a .registers .now) (a .memory .now) (length (a .image .now)) k, le-of-eq (long (length (a .registers .now)) (length (a .memory .now)) (length (a .image .now)) k))
 
 returns : tie.Need-returns
 returns c =
     let a = c .before .before .before .before .before .before .before .before .args in
-    let v = c .before .verdict .given in
-    let e = sym (c .before .before .before .before .judge .ensures .0) ∙ ap numbered (v .1) in
-    let m = c .before .before .before .before .judge .ensures .1 ∙ ap (λ o. refusedOr o (λ n. zeroed) (machineIn (shapeOf (a .memory .now)) (a .image .now))) e in
-    ap (λ (m : Machine). reading (refused (v .0 .0)) (state m (a .registers .now) (a .memory .now))) m
-    ∙ read-refused (a .image .now) (a .registers .now) (a .memory .now) (v .0 .0) e
+    let v = c .before .before .sizes .given in
+    let s = sym (c .before .before .before .before .sizes-verdict .ensures) ∙ ap numbered (v .1) in
+    let e = read-number (a .image .now) (length (a .registers .now)) (length (a .memory .now)) ∙ ap (λ o. refusedOr o some (recordsNumber (shapeOf (a .memory .now)) (a .image .now))) s in
+    ap (λ (m : Machine). reading (refused (v .0 .0)) (state m (a .registers .now) (a .memory .now))) (c .zero .ensures)
+    ∙ read-by (a .image .now) (a .registers .now) (a .memory .now) (some (v .0 .0)) e
 
 returns-2 : tie.Need-returns-2
 returns-2 c =
-    let a = c .before .before .before .before .before .before .before .before .before .before .before .before .before .before .before .args in
-    let e = sym (c .before .before .before .before .before .before .before .before .before .before .before .judge .ensures .0) ∙ ap numbered (c .before .before .before .before .before .before .before .before .enum-told .given .1) in
-    let m = c .before .before .before .before .before .before .before .before .before .before .before .judge .ensures .1 ∙ ap (λ o. refusedOr o (λ n. zeroed) (machineIn (shapeOf (a .memory .now)) (a .image .now))) e in
-    (λ i. reading (given tt) (state (m i) (c .before .before .before .before .before .before .take-registers .ensures i) (c .before .before .take-memory .ensures i))) ∙ read-taken (a .image .now) (a .registers .now) (a .memory .now) e
+    let a = c .before .before .before .before .before .before .before .before .before .before .before .before .before .args in
+    let s = sym (c .before .before .before .before .before .before .before .before .before .sizes-verdict .ensures) ∙ ap numbered (c .before .before .before .before .before .before .before .enum-told .given .1) in
+    let n = recordsNumber (shapeOf (a .memory .now)) (a .image .now) in
+    c .before .before .before .before .read-sized .ensures
+    ∙ read-by (a .image .now) (a .registers .now) (a .memory .now) n (read-number (a .image .now) (length (a .registers .now)) (length (a .memory .now)) ∙ ap (λ o. refusedOr o some n) s)
 
 pub read-spec : {M : Type 1} → statement M
 read-spec =
@@ -54,9 +51,10 @@ read-spec =
     (tie.spec
     (λ c κs. search needs)
     (λ c. search needs)
+    (λ c κs. search needs)
     (λ c. search needs)
-    take-registers-requires
-    take-memory-requires
+    cast-t15
+    read-sized-requires
     returns
     (λ c. search needs)
     (λ c. search needs)

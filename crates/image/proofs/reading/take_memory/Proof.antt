@@ -4,10 +4,10 @@ use mathlib.Core.Path.{_≡_, sym, ap, _∙_}
 use native.Mathlib.Nat.{mul-suc}
 use native.Mathlib.Numerals.{add-one}
 use lib.ListN.{take, drop}
-use Rattle.image.specs.Join.{joined, Grown}
-use Rattle.image.specs.Layout.{rowOf, recordSize}
+use Rattle.image_layout.proofs.Join.{grown-start, grown-join, grown-end, grown-new, grown-whole}
+use Rattle.image_layout.specs.Join.{joined, Grown}
+use Rattle.image_layout.specs.Layout.{rowOf, recordSize}
 use Rattle.image.specs.Types.{Mm}
-use Rattle.image.proofs.Join.{grown-start, grown-join, grown-end, grown-new, grown-whole}
 use Rattle.image.proofs.RecordIn.{fixed-place, body-room}
 use Rattle.image.proofs.Rooms.{memory-read, memory-length}
 use native.Mathlib.Omega.{arith}
@@ -28,8 +28,8 @@ copy-eights-requires c κs =
     let e : c .before .before .before .before .before .row-of .result .count ≡ rowOf (a .shape) Mm .count = ap (λ r. r .count) (c .before .before .before .before .before .row-of .ensures) in
     let l = c .before .before .loop in
     let t : l .i < rowOf (a .shape) Mm .count = omega (arith, e, c .before .loop-test .taken) in
-    let room = body-room (a .shape) Mm (l .i) _ t (c .before .before .before .before .before .before .before .before .pre .1) in
-    (omega (arith, l .inv .1, place (l .i), room), omega (arith, l .inv .2, l .inv .3 .size, t, c .before .before .before .before .before .before .before .before .pre .2))
+    let room = body-room (a .shape) Mm (l .i) _ t (c .before .before .before .before .before .before .before .before .pre .0) in
+    (omega (arith, l .inv .1, place (l .i), room), omega (arith, l .inv .2, l .inv .3 .size, t, c .before .before .before .before .before .before .before .before .pre .1))
 
 add-at : tie.Need-add-at Inv-loop μ-loop
 add-at c =
@@ -38,7 +38,7 @@ add-at c =
     let e : c .before .before .before .before .before .before .before .before .row-of .result .count ≡ rowOf (a .shape) Mm .count = ap (λ r. r .count) (c .before .before .before .before .before .before .before .before .row-of .ensures) in
     let l = c .before .before .before .before .before .loop in
     let t : l .i < rowOf (a .shape) Mm .count = omega (arith, e, c .before .before .before .before .loop-test .taken) in
-    let room = body-room (a .shape) Mm (l .i) _ t (c .before .before .before .before .before .before .before .before .before .before .before .pre .1) in
+    let room = body-room (a .shape) Mm (l .i) _ t (c .before .before .before .before .before .before .before .before .before .before .before .pre .0) in
     omega (arith, l .inv .1, place (l .i), c .before .before .before .before .before .before .before .record-size .ensures ∙ ap recordSize (c .before .before .before .before .before .before .before .before .row-of .ensures), room)
 
 add-next : tie.Need-add-next Inv-loop μ-loop
@@ -47,7 +47,7 @@ add-next c =
     let e : c .before .before .before .before .before .before .before .before .row-of .result .count ≡ rowOf (a .shape) Mm .count = ap (λ r. r .count) (c .before .before .before .before .before .before .before .before .row-of .ensures) in
     let l = c .before .before .before .before .before .loop in
     let t : l .i < rowOf (a .shape) Mm .count = omega (arith, e, c .before .before .before .before .loop-test .taken) in
-    omega (arith, l .inv .2, t, c .before .before .before .before .before .before .before .before .before .before .before .pre .0)
+    omega (arith, l .inv .2, t)
 
 loop-again : tie.Need-loop-again Inv-loop μ-loop
 loop-again c =
@@ -72,7 +72,7 @@ returns c =
     let at = c .before .before .first-body .result in
     let size = c .before .before .before .record-size .result in
     let g = grown-end (l .i) (a .shape .blocks) (λ k. take 64 (drop (at + size * k) image)) (l .inv .3) (omega (arith, e, l .inv .0)) (omega (arith, e, c .loop-test .left)) in
-    grown-whole (grown-new (memory-read (a .shape) image at size place) g) (memory-length (a .shape) image (c .before .before .before .before .before .before .before .pre .1) ∙ sym (c .before .before .before .before .before .before .before .pre .2))
+    grown-whole (grown-new (memory-read (a .shape) image at size place) g) (memory-length (a .shape) image (c .before .before .before .before .before .before .before .pre .0) ∙ sym (c .before .before .before .before .before .before .before .pre .1))
 
 pub take-memory-spec : {M : Type 1} → statement M
 take-memory-spec =
@@ -81,8 +81,8 @@ take-memory-spec =
     Inv-loop
     μ-loop
     (λ c κs. search needs)
-    (λ c κs. rw (c .row-of .ensures) (omega arith))
-    (λ c κs. c .before .before .before .before .pre .0)
+    (λ c κs. search needs)
+    (λ c κs. search needs)
     (λ c. (omega arith, omega arith, omega arith, grown-start _ 0 _))
     copy-eights-requires
     add-at

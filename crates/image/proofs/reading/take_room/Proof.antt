@@ -4,13 +4,13 @@ use mathlib.Core.Path.{_≡_, ap, _∙_}
 use native.Mathlib.Nat.{mul-suc}
 use native.Mathlib.Numerals.{add-one}
 use lib.ListN.{drop}
+use Rattle.image_layout.proofs.Join.{fits-in, grown-start, grown-join, grown-end, grown-new, grown-same}
+use Rattle.image_layout.proofs.Rows.{size-few}
+use Rattle.image_layout.specs.Join.{joined, Grown}
+use Rattle.image_layout.specs.Layout.{rowOf, recordSize}
 use Rattle.image.specs.Bytes.{wordsOf}
-use Rattle.image.specs.Join.{joined, Grown}
-use Rattle.image.specs.Layout.{rowOf, recordSize}
-use Rattle.image.proofs.Join.{fits-in, grown-start, grown-join, grown-end, grown-new, grown-same}
 use Rattle.image.proofs.RecordIn.{fixed-place, body-room}
 use Rattle.image.proofs.Rooms.{room-read}
-use Rattle.image.proofs.Rows.{size-few}
 use native.Mathlib.Omega.{arith}
 use borrow.Author.Needs.{needs}
 use Rattle.image.proofs.reading.take_room.Statement.{statement}
@@ -22,9 +22,6 @@ Inv-loop n image registers₀ from count size at₀ next₀ i₀ registers at ne
 abbrev μ-loop : tie.MeasureT-loop
 μ-loop n image registers₀ from count size at₀ next₀ i₀ registers at next i = count - i
 
-record-size-requires : tie.Need-record-size-requires Inv-loop μ-loop
-record-size-requires c κs = rw (c .row-of .ensures) (omega (arith, size-few (c .before .before .before .args .shape) (c .before .before .before .args .kind)))
-
 take-words-requires : tie.Need-take-words-requires Inv-loop μ-loop
 take-words-requires c κs =
     let a = c .before .before .before .before .before .before .before .before .args in
@@ -32,8 +29,8 @@ take-words-requires c κs =
     let e : c .before .before .before .before .before .row-of .result .count ≡ rowOf (a .shape) (a .kind) .count = ap (λ r. r .count) (c .before .before .before .before .before .row-of .ensures) in
     let l = c .before .before .loop in
     let t : l .i < rowOf (a .shape) (a .kind) .count = omega (arith, e, c .before .loop-test .taken) in
-    let room = body-room (a .shape) (a .kind) (l .i) _ t (c .before .before .before .before .before .before .before .before .pre .1) in
-    (omega (arith, l .inv .1, place (l .i), room, c .before .before .before .before .before .before .before .before .pre .2), omega (arith, l .inv .2, l .inv .3 .size, fits-in (a .n) (l .i) (rowOf (a .shape) (a .kind) .count) t, c .before .before .before .before .before .before .before .before .pre .3))
+    let room = body-room (a .shape) (a .kind) (l .i) _ t (c .before .before .before .before .before .before .before .before .pre .0) in
+    (omega (arith, l .inv .1, place (l .i), room, c .before .before .before .before .before .before .before .before .pre .1), omega (arith, l .inv .2, l .inv .3 .size, fits-in (a .n) (l .i) (rowOf (a .shape) (a .kind) .count) t, c .before .before .before .before .before .before .before .before .pre .2))
 
 add-at : tie.Need-add-at Inv-loop μ-loop
 add-at c =
@@ -42,7 +39,7 @@ add-at c =
     let e : c .before .before .before .before .before .before .before .before .row-of .result .count ≡ rowOf (a .shape) (a .kind) .count = ap (λ r. r .count) (c .before .before .before .before .before .before .before .before .row-of .ensures) in
     let l = c .before .before .before .before .before .loop in
     let t : l .i < rowOf (a .shape) (a .kind) .count = omega (arith, e, c .before .before .before .before .loop-test .taken) in
-    let room = body-room (a .shape) (a .kind) (l .i) _ t (c .before .before .before .before .before .before .before .before .before .before .before .pre .1) in
+    let room = body-room (a .shape) (a .kind) (l .i) _ t (c .before .before .before .before .before .before .before .before .before .before .before .pre .0) in
     omega (arith, l .inv .1, place (l .i), c .before .before .before .before .before .before .before .record-size .ensures ∙ ap recordSize (c .before .before .before .before .before .before .before .before .row-of .ensures), size-few (a .shape) (a .kind), room)
 
 add-next : tie.Need-add-next Inv-loop μ-loop
@@ -51,7 +48,7 @@ add-next c =
     let e : c .before .before .before .before .before .before .before .before .row-of .result .count ≡ rowOf (a .shape) (a .kind) .count = ap (λ r. r .count) (c .before .before .before .before .before .before .before .before .row-of .ensures) in
     let l = c .before .before .before .before .before .loop in
     let t : l .i < rowOf (a .shape) (a .kind) .count = omega (arith, e, c .before .before .before .before .loop-test .taken) in
-    omega (arith, l .inv .2, l .inv .3 .size, fits-in (a .n) (l .i) (rowOf (a .shape) (a .kind) .count) t, c .before .before .before .before .before .before .before .before .before .before .before .pre .3)
+    omega (arith, l .inv .2, l .inv .3 .size, fits-in (a .n) (l .i) (rowOf (a .shape) (a .kind) .count) t, c .before .before .before .before .before .before .before .before .before .before .before .pre .2)
 
 loop-again : tie.Need-loop-again Inv-loop μ-loop
 loop-again c =
@@ -76,7 +73,7 @@ returns c =
     let size = c .before .before .before .record-size .result in
     let g = grown-end (l .i) (rowOf (a .shape) (a .kind) .count) (λ k. wordsOf (a .n) (drop (at + size * k) (a .image .now))) (l .inv .3) (omega (arith, e, l .inv .0)) (omega (arith, e, c .loop-test .left)) in
     let f : l .i ≡ rowOf (a .shape) (a .kind) .count = omega (arith, e, l .inv .0, c .loop-test .left) in
-    grown-same _ (l .inv .2 ∙ ap (λ i. a .from + a .n * i) f) (grown-new (room-read (a .shape) (a .image .now) (a .kind) (a .n) at size (c .before .before .before .before .before .before .before .pre .2) place) g)
+    grown-same _ (l .inv .2 ∙ ap (λ i. a .from + a .n * i) f) (grown-new (room-read (a .shape) (a .image .now) (a .kind) (a .n) at size (c .before .before .before .before .before .before .before .pre .1) place) g)
 
 pub take-room-spec : {M : Type 1} → statement M
 take-room-spec =
@@ -85,8 +82,8 @@ take-room-spec =
     Inv-loop
     μ-loop
     (λ c κs. search needs)
-    record-size-requires
-    (λ c κs. c .before .before .before .before .pre .0)
+    (λ c κs. search needs)
+    (λ c κs. search needs)
     (λ c. (omega arith, omega arith, omega arith, grown-start _ _ _))
     take-words-requires
     add-at

@@ -2,17 +2,16 @@
 use mathlib.Core.Path.{_≡_, _∙_}
 use Rattle.answer.specs.Refusal.{refusedOr}
 use Rattle.machine.specs.Machine.{zeroed}
-use Rattle.image.specs.Layout.{kinds, recordKinds, headsIn}
+use Rattle.image_layout.proofs.Rows.{start-few}
+use Rattle.image_layout.specs.Layout.{kinds, recordKinds, headsIn}
 use Rattle.image.specs.Refusal.{contentNumber, recordsNumber}
-use Rattle.image.proofs.Rows.{start-few}
 use native.Mathlib.Omega.{arith}
 use borrow.Author.Needs.{needs}
 use Rattle.image.proofs.verdicts.judge_records.Statement.{statement}
 use Rattle.image.proofs.verdicts.judge_records.Tie as tie
 
 record-in-requires : tie.Need-record-in-requires
-record-in-requires c κs =
-    (c .before .before .pre .0, omega (arith, start-few (c .before .before .args .shape) recordKinds kinds (omega arith), c .before .before .pre .1))
+record-in-requires c κs = omega (arith, start-few (c .before .before .args .shape) recordKinds kinds (omega arith), c .before .before .pre)
 
 returns : tie.Need-returns
 unfolding recordsNumber contentNumber headsIn

@@ -3,9 +3,9 @@ use Prim.Native.Nat.{_+_, _*_, _/_, _%_}
 use mathlib.Core.Path.{_≡_, ap}
 use lib.ListN.{drop, length-set}
 use Rattle.machine.specs.State.{scalarPlace, lanePlace}
+use Rattle.image_layout.proofs.Join.{grown-new}
 use Rattle.image.specs.Bytes.{bytesOf}
 use Rattle.image.specs.Image.{fieldBytes}
-use Rattle.image.proofs.Join.{grown-new}
 use Rattle.image.proofs.Words.{grown-two}
 use native.Mathlib.Omega.{arith}
 use borrow.Author.Needs.{needs}

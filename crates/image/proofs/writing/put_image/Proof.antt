@@ -2,11 +2,12 @@
 use Prim.Native.Nat.{_-_, _≤_}
 use mathlib.Core.Path.{ap, _∙_}
 use Rattle.machine.specs.State.{State, state}
+use Rattle.image_layout.proofs.Join.{grown-start, grown-join, grown-end, grown-new, grown-whole}
+use Rattle.image_layout.proofs.Rows.{sectionAt, sections-length, start-room}
+use Rattle.image_layout.specs.Join.{joined, Grown}
+use Rattle.image_layout.specs.Layout.{kinds, kindAt, rowOf, sectionOf, laidOut}
 use Rattle.image.specs.Image.{bodyOf}
-use Rattle.image.specs.Join.{joined, Grown}
-use Rattle.image.specs.Layout.{kinds, kindAt, rowOf, sectionOf, laidOut}
-use Rattle.image.proofs.Join.{grown-start, grown-join, grown-end, grown-new, grown-whole}
-use Rattle.image.proofs.Rows.{body-length, sectionAt, sections-length, start-room, suits}
+use Rattle.image.proofs.Bodies.{body-length, suits}
 use native.Mathlib.Omega.{arith}
 use borrow.Author.Needs.{needs}
 use Rattle.image.proofs.writing.put_image.Statement.{statement}
@@ -53,7 +54,7 @@ put-image-spec =
     Inv-loop
     μ-loop
     (λ c. (omega arith, grown-start (c .before .before .before .args .buffer .now) 0 _))
-    (λ c κs. c .loop-test .taken)
+    (λ c κs. search needs)
     put-section-requires
     (λ c. search needs)
     (λ c. omega arith)

@@ -1,8 +1,9 @@
 -- `writing::put_record` meets its contract.
 use mathlib.Core.Path.{ap}
-use Rattle.image.specs.Layout.{rowOf, headOf, recordOf}
-use Rattle.image.proofs.Join.{grown-more, grown-new}
-use Rattle.image.proofs.Rows.{head-length, numbered}
+use Rattle.image_layout.specs.Layout.{rowOf, headOf, recordOf}
+use Rattle.image_layout.proofs.Join.{grown-more, grown-new}
+use Rattle.image_layout.proofs.Rows.{head-length}
+use Rattle.image.proofs.Bodies.{numbered}
 use native.Mathlib.Omega.{arith}
 use borrow.Author.Needs.{needs}
 use Rattle.image.proofs.writing.put_record.Statement.{statement}

@@ -2,11 +2,12 @@
 use Prim.Native.Nat.{_-_, _≤_, _<_}
 use mathlib.Core.Path.{_≡_, ap}
 use Rattle.machine.specs.State.{State, state}
+use Rattle.image_layout.proofs.Join.{grown-start, grown-join, grown-end, room-for}
+use Rattle.image_layout.proofs.Rows.{record-length}
+use Rattle.image_layout.specs.Join.{joined, Grown}
+use Rattle.image_layout.specs.Layout.{rowOf, recordSize, recordOf, sectionOf}
 use Rattle.image.specs.Image.{bodyOf}
-use Rattle.image.specs.Join.{joined, Grown}
-use Rattle.image.specs.Layout.{rowOf, recordSize, recordOf, sectionOf}
-use Rattle.image.proofs.Join.{grown-start, grown-join, grown-end, room-for}
-use Rattle.image.proofs.Rows.{body-length-of, record-length}
+use Rattle.image.proofs.Bodies.{body-length-of}
 use native.Mathlib.Omega.{arith}
 use borrow.Author.Needs.{needs}
 use Rattle.image.proofs.writing.put_section.Statement.{statement}

@@ -7,7 +7,8 @@ use Rattle.answer.specs.Refusal.{numbered}
 use Rattle.machine.specs.State.{State, state}
 use Rattle.image.specs.Calls.{writing}
 use Rattle.image.specs.Image.{image}
-use Rattle.image.proofs.Refusals.{sized, long, lengths, write-sizes, write-record, write-taken}
+use Rattle.image.proofs.Refusals.{sized, long, lengths, memory-blocks, write-sizes, write-record, write-taken}
+use native.Mathlib.Omega.{arith}
 use borrow.Author.Needs.{needs}
 use Rattle.image.proofs.writing.write.Statement.{statement}
 use Rattle.image.proofs.writing.write.Tie as tie
@@ -18,6 +19,13 @@ returns c =
     let s : State = state (a .machine) (a .registers .now) (a .memory .now) in
     let e = sym (c .before .before .before .before .sizes-verdict .ensures) ∙ ap numbered (c .before .before .enum-told .given .1) in
     write-record s (a .buffer .now) e (sym (c .before .well-formed .ensures) ∙ not-true (c .before .well-formed .result) (c .if1 .taken))
+
+cast-t16 : tie.Need-cast-t16
+cast-t16 c =
+    let a = c .before .before .before .before .before .before .before .before .args in
+    let e = sym (c .before .before .before .before .sizes-verdict .ensures) ∙ ap numbered (c .before .before .enum-told .given .1) in
+    let k = sized (length (a .registers .now)) (length (a .memory .now)) (length (a .buffer .now)) e in
+    omega (arith, memory-blocks (length (a .memory .now)) (k .memory))
 
 put-image-requires : tie.Need-put-image-requires
 put-image-requires c κs =
@@ -51,6 +59,7 @@ write-spec =
     (λ c. search needs)
     (λ c κs. search needs)
     returns
+    cast-t16
     put-image-requires
     returns-2
     (λ c. search needs)

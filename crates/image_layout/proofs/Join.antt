@@ -1,0 +1,116 @@
+-- Laws of lists laid end to end, and of a lent list that grows.
+use Prim.Native.Nat.{ℕ, zero, suc, _+_, _*_, _≤_, _<_}
+use mathlib.Core.Path.{_≡_, refl, sym, ap, _∙_}
+use mathlib.Core.List.{List, [], _∷_, _++_, append-assoc, append-nil}
+use mathlib.Core.Logic.{⊎-elim}
+use native.Mathlib.Omega.{arith}
+use native.Mathlib.Numerals.{add-one}
+use native.Mathlib.Nat.{mul-suc, mul-le-mul-left}
+use lib.ListN.{length, getD, take, drop, set, length-append, length-set, length-drop}
+use lib.Seq.{take-suc-set, take-all, take-suc, getD-drop, take-add, drop-drop}
+use Rattle.image_layout.specs.Join.{joined, total, Grown}
+use Rattle.image_layout.proofs.Tests.{at-or-below}
+
+-- Growing.
+
+pub grown-none : {A : Type 0} (l : List A) (at : ℕ) → Grown l l at at []
+grown-none l at = record { size = refl; next = omega arith; kept = sym (append-nil (take at l)) }
+
+pub grown-one : {A : Type 0} (l : List A) (at : ℕ) (x : A) → at < length l → Grown l (set l at x) at (at + 1) (x ∷ [])
+grown-one l at x h = record { size = length-set l at x; next = refl; kept = rw add-one (take-suc-set l at x h) }
+
+pub grown-more : {A : Type 0} {l r s : List A} {at p q : ℕ} {x y : List A} → Grown l r at p x → Grown r s p q y → Grown l s at q (x ++ y)
+grown-more {l = l} {at = at} {x = x} {y = y} g h = record {
+  size = h .size ∙ g .size;
+  next = omega (arith, g .next, h .next, length-append x y);
+  kept = h .kept ∙ (ap (λ z. z ++ y) (g .kept) ∙ append-assoc (take at l) x y);
+}
+
+pub grown-same : {A : Type 0} {l r : List A} {at p : ℕ} {x : List A} (q : ℕ) → p ≡ q → Grown l r at p x → Grown l r at q x
+grown-same q e g = rw e at g
+
+-- one more piece of those laid end to end
+pub grown-join : {A : Type 0} {l r s : List A} {at p q : ℕ} (j : ℕ) (f : ℕ → List A) → Grown l r at p (joined j f) → Grown r s p q (f j) → Grown l s at q (joined (j + 1) f)
+unfolding joined
+grown-join j f g h = rw add-one (grown-more g h)
+
+pub grown-start : {A : Type 0} (l : List A) (at : ℕ) (f : ℕ → List A) → Grown l l at at (joined 0 f)
+unfolding joined
+grown-start l at f = grown-none l at
+
+pub grown-end : {A : Type 0} {l r : List A} {at p : ℕ} (j n : ℕ) (f : ℕ → List A) → Grown l r at p (joined j f) → j ≤ n → n ≤ j → Grown l r at p (joined n f)
+grown-end j n f g a b = let e : j ≡ n = omega arith in rw e at g
+
+-- all of it
+pub grown-whole : {A : Type 0} {l r : List A} {p : ℕ} {x : List A} → Grown l r 0 p x → length x ≡ length l → r ≡ x
+grown-whole {l = l} {r} {p} {x} g h = sym (take-all p r (let e : length r ≤ p = omega (arith, g .size, g .next) in e)) ∙ g .kept
+
+-- Lengths.
+
+pub length-joined : {A : Type 0} (n : ℕ) (f : ℕ → List A) (g : ℕ → ℕ) → ((i : ℕ) → i < n → length (f i) ≡ g i) → length (joined n f) ≡ total n g
+unfolding joined total
+length-joined zero f g h = refl
+length-joined (suc n) f g h =
+    let a = length-joined n f g (λ i l. h i (omega arith)) in
+    let b = h n (omega arith) in
+    omega (arith, length-append (joined n f) (f n))
+
+pub total-same : (n s : ℕ) → total n (λ _. s) ≡ s * n
+unfolding total
+total-same zero s = omega arith
+total-same (suc n) s = omega (arith, total-same n s, mul-suc s n)
+
+-- pieces of one size
+pub length-even : {A : Type 0} (n s : ℕ) (f : ℕ → List A) → ((i : ℕ) → i < n → length (f i) ≡ s) → length (joined n f) ≡ s * n
+length-even n s f h = length-joined n f (λ _. s) h ∙ total-same n s
+
+-- the i-th of n pieces of one size ends within them
+pub fits-in : (s i n : ℕ) → i < n → s * i + s ≤ s * n
+fits-in s i n h = let e : s * suc i ≤ s * n = mul-le-mul-left s (let l : suc i ≤ n = omega arith in l) in omega (arith, mul-suc s i)
+
+pub total-le : (q n : ℕ) (g : ℕ → ℕ) → q ≤ n → total q g ≤ total n g
+unfolding total
+total-le q zero g h = let e : q ≡ 0 = omega arith in rw e (omega arith)
+total-le q (suc n) g h = ⊎-elim (λ e. rw e (omega arith)) (λ l. omega (arith, total-le q n g (let m : q ≤ n = omega arith in m))) (at-or-below q (suc n) (let l : q < suc (suc n) = omega arith in l))
+
+-- room for one more piece of one size
+pub room-for : {A : Type 0} {l r : List A} {at p : ℕ} (s j n : ℕ) (f : ℕ → List A) → Grown l r at p (joined j f) → ((i : ℕ) → i < n → length (f i) ≡ s) → j < n → at + s * n ≤ length l → p + s ≤ length r
+room-for s j n f g h t b = omega (arith, g .size, g .next, length-even j s f (λ i k. h i (omega arith)), fits-in s j n t)
+
+-- the same of other words for what is stored
+pub grown-new : {A : Type 0} {l r x y : List A} {at p : ℕ} → x ≡ y → Grown l r at p x → Grown l r at p y
+grown-new e g = rw e at g
+
+-- one more of the bytes from a place of another list
+pub grown-taken : {l r : List ℕ} (at p k : ℕ) (m : List ℕ) → Grown l r at (at + k) (take k (drop p m)) → p + k < length m → at + k < length r
+    → Grown l (set r (at + k) (getD m (p + k) 0)) at (at + (k + 1)) (take (k + 1) (drop p m))
+grown-taken {r = r} at p k m g h t =
+    let e : k < length (drop p m) = rw (length-drop p m) (omega arith) in
+    rw (add-one k, take-suc (drop p m) k 0 e, getD-drop p m k 0) (grown-same (at + suc k) (omega arith) (grown-more g (grown-one r (at + k) (getD m (p + k) 0) t)))
+
+-- eight of them
+pub grown-eight : (l : List ℕ) (at p : ℕ) (m : List ℕ) → p + 8 ≤ length m → at + 8 ≤ length l
+    → Grown l
+    (set (set (set (set (set (set (set (set l at (getD m p 0)) (at + 1) (getD m (p + 1) 0)) (at + 2) (getD m (p + 2) 0)) (at + 3) (getD m (p + 3) 0)) (at + 4) (getD m (p + 4) 0)) (at + 5) (getD m (p + 5) 0)) (at + 6) (getD m (p + 6) 0)) (at + 7) (getD m (p + 7) 0))
+    at (at + 8) (take 8 (drop p m))
+grown-eight l at p m h t =
+    let y : at + 0 ≡ at = omega arith in
+    let z : p + 0 ≡ p = omega arith in
+    let g0 : Grown l l at (at + 0) [] = grown-same (at + 0) (sym y) (grown-none l at) in
+    let g1 = rw (y, z) at (grown-taken at p 0 m g0 (omega arith) (omega arith)) in
+    let g2 = grown-taken at p 1 m g1 (omega arith) (omega (arith, g1 .size)) in
+    let g3 = grown-taken at p 2 m g2 (omega arith) (omega (arith, g2 .size)) in
+    let g4 = grown-taken at p 3 m g3 (omega arith) (omega (arith, g3 .size)) in
+    let g5 = grown-taken at p 4 m g4 (omega arith) (omega (arith, g4 .size)) in
+    let g6 = grown-taken at p 5 m g5 (omega arith) (omega (arith, g5 .size)) in
+    let g7 = grown-taken at p 6 m g6 (omega arith) (omega (arith, g6 .size)) in
+    grown-taken at p 7 m g7 (omega arith) (omega (arith, g7 .size))
+
+-- and eight more
+pub grown-eights : {l r s : List ℕ} (at p k : ℕ) (m : List ℕ) → Grown l r at (at + 8 * k) (take (8 * k) (drop p m)) → Grown r s (at + 8 * k) (at + 8 * k + 8) (take 8 (drop (p + 8 * k) m))
+    → Grown l s at (at + 8 * (k + 1)) (take (8 * (k + 1)) (drop p m))
+grown-eights at p k m g h =
+    let e : 8 * (k + 1) ≡ 8 * k + 8 = omega arith in
+    let x : take (8 * k) (drop p m) ++ take 8 (drop (p + 8 * k) m) ≡ take (8 * (k + 1)) (drop p m) =
+    ap (λ z. take (8 * k) (drop p m) ++ take 8 z) (sym (drop-drop (8 * k) p m)) ∙ (sym (take-add (8 * k) 8 (drop p m)) ∙ ap (λ n. take n (drop p m)) (sym e)) in
+    grown-same {p = at + 8 * k + 8} (at + 8 * (k + 1)) (omega arith) (grown-new x (grown-more g h))

@@ -1,0 +1,138 @@
+-- What holds of every row of the table: a case for each kind, once; and the lengths that follow from it.
+use Prim.Native.Nat.{ℕ, zero, suc, _+_, _*_, _≤_, _<_}
+use mathlib.Core.List.{List}
+use mathlib.Core.Path.{_≡_, refl, ap}
+use native.Mathlib.Nat.{mul-suc}
+use native.Mathlib.Numerals.{add-one}
+use native.Mathlib.Omega.{arith}
+use lib.ListN.{length, length-append}
+use Rattle.answer.specs.Refusal.{fixedPart, blockRecord}
+use Rattle.image_layout.specs.Join.{total, joined}
+use Rattle.image_layout.specs.Layout.{kinds, rowOf, kindAt, positionIn, orderOf, placesOf, placesLength, headLength, headOf, recordSize, extentOf, recordOf, sectionOf, laidOut, startOf, recordAt}
+use Rattle.image_layout.specs.Types.{Kind, Hd, Th, Sr, Vr, Mm, Places, Nothing, ByThread, ByRegister, ByBlock, Shape, Row}
+use Rattle.image_layout.proofs.Join.{length-even, length-joined, total-le, fits-in}
+
+places-length : (p : Places) (i : ℕ) → length (placesOf p i) ≡ placesLength p
+places-length Nothing i = refl
+places-length ByThread i = refl
+places-length ByRegister i = refl
+places-length ByBlock i = refl
+
+pub places-few : (p : Places) → placesLength p ≤ 2
+places-few Nothing = omega arith
+places-few ByThread = omega arith
+places-few ByRegister = omega arith
+places-few ByBlock = omega arith
+
+pub head-length : (r : Row) (i : ℕ) → length (headOf r i) ≡ headLength (r .places)
+head-length r i = omega (arith, places-length (r .places) i)
+
+pub size-few : (s : Shape) (k : Kind) → rowOf s k .size ≤ 256
+size-few s Hd = omega arith
+size-few s Th = omega arith
+size-few s Sr = omega arith
+size-few s Vr = omega arith
+size-few s Mm = omega arith
+
+pub extent-few : (s : Shape) (k : Kind) → s .blocks ≤ 65535 → extentOf (rowOf s k) ≤ 4456380
+extent-few s Hd h = omega arith
+extent-few s Th h = omega arith
+extent-few s Sr h = omega arith
+extent-few s Vr h = omega arith
+extent-few s Mm h = omega arith
+
+-- a kind stands at its position
+pub kind-order : (k : Kind) → kindAt (orderOf k) ≡ k
+unfolding orderOf positionIn
+kind-order Hd = refl
+kind-order Th = refl
+kind-order Sr = refl
+kind-order Vr = refl
+kind-order Mm = refl
+
+pub order-few : (k : Kind) → orderOf k < kinds
+unfolding orderOf positionIn
+order-few Hd = omega arith
+order-few Th = omega arith
+order-few Sr = omega arith
+order-few Vr = omega arith
+order-few Mm = omega arith
+
+-- past the last of them the first is named
+pub past-kinds : (q : ℕ) → kinds ≤ q → Hd ≡ kindAt q
+past-kinds zero h = absurd (omega arith)
+past-kinds (suc zero) h = absurd (omega arith)
+past-kinds (suc (suc zero)) h = absurd (omega arith)
+past-kinds (suc (suc (suc zero))) h = absurd (omega arith)
+past-kinds (suc (suc (suc (suc zero)))) h = absurd (omega arith)
+past-kinds (suc (suc (suc (suc (suc q))))) h = refl
+
+-- HD and TH are the first two
+pub hd-order : orderOf Hd ≡ 0
+unfolding orderOf positionIn
+hd-order = refl
+
+pub th-order : orderOf Th ≡ 1
+unfolding orderOf positionIn
+th-order = refl
+
+-- Lengths, over any row.
+
+module _ (r : Row) (body : ℕ → List ℕ) (even : (i : ℕ) → i < r .count → length (body i) ≡ r .size) where
+  pub record-length : (i : ℕ) → i < r .count → length (recordOf r body i) ≡ recordSize r
+  unfolding recordOf
+  record-length i h = omega (arith, length-append (headOf r i) (body i), head-length r i, even i h)
+
+  pub section-length : length (sectionOf r body) ≡ extentOf r
+  unfolding sectionOf
+  section-length = length-even (r .count) (recordSize r) (recordOf r body) record-length
+
+-- a record, its head and its body end within the records of its kind
+pub record-room : (r : Row) (at i len : ℕ) → i < r .count → at + extentOf r ≤ len → recordAt r at i + recordSize r ≤ len
+record-room r at i len h e = omega (arith, fits-in (recordSize r) i (r .count) h)
+
+-- the next record begins where one ends
+pub record-next : (r : Row) (at i : ℕ) → recordAt r at i + recordSize r ≡ recordAt r at (i + 1)
+record-next r at i = omega (arith, mul-suc (recordSize r) i, ap (λ n. recordSize r * n) (add-one i))
+
+-- the whole length, as the paper says it
+pub whole-length : (s : Shape) → startOf s kinds ≡ fixedPart + blockRecord * s .blocks
+unfolding startOf total
+whole-length s = omega arith
+
+-- where kinds begin, one after the other, and that each ends within the image
+pub start-none : (s : Shape) → 0 ≡ startOf s 0
+unfolding startOf total
+start-none s = refl
+
+pub start-next : (s : Shape) (q : ℕ) → startOf s (q + 1) ≡ startOf s q + extentOf (rowOf s (kindAt q))
+unfolding startOf total
+start-next s q = rw (add-one q)
+
+pub start-room : (s : Shape) (q n : ℕ) → q < n → startOf s q + extentOf (rowOf s (kindAt q)) ≤ startOf s n
+unfolding startOf total
+start-room s q n h = total-le (suc q) n (λ p. extentOf (rowOf s (kindAt p))) (omega arith)
+
+pub start-few : (s : Shape) (q n : ℕ) → q ≤ n → startOf s q ≤ startOf s n
+unfolding startOf
+start-few s q n h = total-le q n (λ p. extentOf (rowOf s (kindAt p))) h
+
+pub kind-room-in : (s : Shape) (k : Kind) (n : ℕ) → orderOf k < n → startOf s (orderOf k) + extentOf (rowOf s k) ≤ startOf s n
+kind-room-in s k n l = let h = start-room s (orderOf k) n l in rw (kind-order k) at h
+
+pub kind-room : (s : Shape) (k : Kind) → startOf s (orderOf k) + extentOf (rowOf s k) ≤ startOf s kinds
+kind-room s k = kind-room-in s k kinds (order-few k)
+
+-- the kinds in order, end to end
+abbrev pub sectionAt : Shape → (Kind → ℕ → List ℕ) → ℕ → List ℕ
+sectionAt s body q = sectionOf (rowOf s (kindAt q)) (body (kindAt q))
+
+module _ (s : Shape) (body : Kind → ℕ → List ℕ) (even : (k : Kind) (i : ℕ) → i < rowOf s k .count → length (body k i) ≡ rowOf s k .size) where
+  pub sections-length : (q : ℕ) → length (joined q (sectionAt s body)) ≡ startOf s q
+  unfolding startOf
+  sections-length q =
+      length-joined q (sectionAt s body) (λ p. extentOf (rowOf s (kindAt p))) (λ p _. section-length (rowOf s (kindAt p)) (body (kindAt p)) (even (kindAt p)))
+
+  pub laid-length : length (laidOut s body) ≡ startOf s kinds
+  unfolding laidOut
+  laid-length = sections-length kinds

@@ -1,0 +1,7 @@
+-- The types that the code declares.
+pub use Rattle.image_layout.specs.declared.layout.Kind.{Kind}
+pub use Rattle.image_layout.specs.declared.layout.Kind.the-variants.{Hd, Th, Sr, Vr, Mm}
+pub use Rattle.image_layout.specs.declared.layout.Places.{Places}
+pub use Rattle.image_layout.specs.declared.layout.Places.the-variants.{Nothing, ByThread, ByRegister, ByBlock}
+pub use Rattle.image_layout.specs.declared.layout.Shape.{Shape}
+pub use Rattle.image_layout.specs.declared.layout.Row.{Row}

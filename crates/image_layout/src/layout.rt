@@ -1,0 +1,142 @@
+// The layout of an image: a table of record kinds, and the fixed places that follow from it.
+ghost use mathlib.Core.Path.{_≡_};
+ghost use Rattle.image_layout.specs.Layout.{rowOf, kindAt, orderOf, headLength, recordSize, extentOf, startOf, bodyPlace};
+
+// The kinds of records, in the order of the image.
+pub enum Kind {
+    Hd,
+    Th,
+    Sr,
+    Vr,
+    Mm,
+}
+
+// The place numbers behind a record's mark.
+pub enum Places {
+    Nothing,
+    ByThread,
+    ByRegister,
+    ByBlock,
+}
+
+// What the layout goes by: the 64-byte blocks of memory.
+pub struct Shape {
+    pub blocks: u16,
+}
+
+// A kind's mark, its place numbers, how many records there are, and the bytes behind the place numbers of one.
+pub struct Row {
+    pub first: u8,
+    pub second: u8,
+    pub places: Places,
+    pub count: usize,
+    pub size: u16,
+}
+
+const ORDER: [Kind; 5] = [Kind::Hd, Kind::Th, Kind::Sr, Kind::Vr, Kind::Mm];
+
+// How many kinds there are.
+pub const KINDS: usize = ORDER.len();
+
+// The first of them, which hold the machine record.
+pub const RECORD_KINDS: usize = 2;
+
+// The kind at a position; the first where there is no such position.
+pub fn kind_at(position: usize) -> Kind
+    ensures { λ r. ⌜ r ≡ kindAt position ⌝ }
+{
+    if position < KINDS {
+        return ORDER[position];
+    }
+    ORDER[0]
+}
+
+// The position of a kind.
+fn order_of(kind: Kind) -> usize
+    ensures { λ r. ⌜ r ≡ orderOf kind ⌝ }
+{
+    match kind {
+        Kind::Hd => 0,
+        Kind::Th => 1,
+        Kind::Sr => 2,
+        Kind::Vr => 3,
+        Kind::Mm => 4,
+    }
+}
+
+// The table.
+pub fn row_of(shape: Shape, kind: Kind) -> Row
+    ensures { λ r. ⌜ r ≡ rowOf shape kind ⌝ }
+{
+    let blocks = shape.blocks as usize;
+    match kind {
+        Kind::Hd => row_with(b'H', b'D', Places::Nothing, 1, 2),
+        Kind::Th => row_with(b'T', b'H', Places::ByThread, 8, 4),
+        Kind::Sr => row_with(b'S', b'R', Places::ByThread, 8, 256),
+        Kind::Vr => row_with(b'V', b'R', Places::ByRegister, 512, 64),
+        Kind::Mm => row_with(b'M', b'M', Places::ByBlock, blocks, 64),
+    }
+}
+
+// A row by its columns.
+fn row_with(first: u8, second: u8, places: Places, count: usize, size: u16) -> Row
+    ensures { λ r. ⌜ r ≡ record { first = first; second = second; places = places; count = count; size = size } ⌝ }
+{
+    Row {
+        first,
+        second,
+        places,
+        count,
+        size,
+    }
+}
+
+// The bytes of a mark and place numbers.
+pub fn head_length(places: Places) -> usize
+    ensures { λ r. ⌜ r ≡ headLength places ⌝ }
+{
+    match places {
+        Places::Nothing => 2,
+        Places::ByThread => 3,
+        Places::ByRegister => 4,
+        Places::ByBlock => 4,
+    }
+}
+
+// The bytes of a record.
+pub fn record_size(row: Row) -> usize
+    ensures { λ r. ⌜ r ≡ recordSize row ⌝ }
+{
+    let places = row.places;
+    head_length(places) + row.size as usize
+}
+
+// The bytes of all records of a kind.
+pub fn extent_of(shape: Shape, kind: Kind) -> usize
+    ensures { λ r. ⌜ r ≡ extentOf (rowOf shape kind) ⌝ }
+{
+    let records = row_of(shape, kind);
+    record_size(records) * records.count
+}
+
+// Where a kind begins.
+fn start_of(shape: Shape, kind: Kind) -> usize
+    ensures { λ r. ⌜ r ≡ startOf shape (orderOf kind) ⌝ }
+{
+    let order = order_of(kind);
+    let mut at: usize = 0;
+    for position in 0..order {
+        let extent = extent_of(shape, kind_at(position));
+        at += extent;
+    }
+    at
+}
+
+// Where the body of a kind's first record begins; the next bodies follow a record apart.
+pub fn first_body(shape: Shape, kind: Kind) -> usize
+    ensures { λ r. ⌜ r ≡ bodyPlace (rowOf shape kind) (startOf shape (orderOf kind)) 0 ⌝ }
+{
+    let row = row_of(shape, kind);
+    let places = row.places;
+    start_of(shape, kind) + head_length(places)
+}

@@ -1,0 +1,16 @@
+// The table of an image's records: kinds, rows, fixed places, and what a record opens with (document 01, "Saved image").
+mod heads;
+mod layout;
+
+pub use heads::head_stands;
+pub use layout::KINDS;
+pub use layout::Kind;
+pub use layout::Places;
+pub use layout::RECORD_KINDS;
+pub use layout::Row;
+pub use layout::Shape;
+pub use layout::extent_of;
+pub use layout::first_body;
+pub use layout::kind_at;
+pub use layout::record_size;
+pub use layout::row_of;
