@@ -7,7 +7,7 @@ use mathlib.Core.Path.{_≡_, refl, sym, ap, subst, _∙_}
 use native.Mathlib.Omega.{arith}
 use lib.ListN.{length, getD}
 use Rattle.execution.specs.Effect.{Step, step, beside}
-use Rattle.execution.specs.Issue.{executeWord, fits, perform, performSetsStatus, issue, issueSetsStatus}
+use Rattle.execution.specs.Issue.{fits, perform, performSetsStatus, issue, issueSetsStatus}
 use Rattle.execution.specs.Jump.{inProgram}
 use Rattle.execution.specs.Registers.{programCounter}
 use Rattle.isa.specs.Layout.{bits}

@@ -21,9 +21,6 @@ use Rattle.fast_path.specs.Types.{Operation, MoveiOp, JumpOp, MemoryOp, 
 pub free-register : (d : ℕ) → d < 63 → not (eqb d 63) ≡ true
 free-register d h = rw (ne-eqb d 63 (λ e. omega arith))
 
-pub free-field : (w : ℕ) → (bits w 23 18 ≡ 63 → ⊥) → bits w 23 18 < 63
-free-field w h = omega arith
-
 module _ (w : ℕ) where
   pub plain-R : (op : Operation) → HasOpcode w 0x00 64 (rowR op .opcode) → w % 64 ≡ 0 → allowsR op 0 (bits w 23 18) (bits w 11 6) ≡ true →
       read w ≡ given (R op 0 (bits w 23 18) (bits w 17 12) (bits w 11 6))

@@ -1,7 +1,5 @@
 -- `issuing::jump` meets its contract: a target with a word is jumped to.
 use borrow.Author.Needs.{needs}
-use mathlib.Core.Path.{sym, _∙_}
-use native.Mathlib.Omega.{arith}
 use Rattle.execution.proofs.Targets.{wrapped}
 use Rattle.execution.specs.Jump.{jumpTo}
 use Rattle.fast_path.proofs.issuing.jump.Statement.{statement}
