@@ -2,7 +2,7 @@
 ghost use mathlib.Core.Path.{_≡_};
 ghost use Rattle.image_layout.specs.Layout.{rowOf, kindAt, orderOf, headLength, recordSize, extentOf, startOf, bodyPlace};
 
-// The kinds of records, in the order of the image.
+// The kinds of records.
 pub enum Kind {
     Hd,
     Th,
@@ -33,6 +33,7 @@ pub struct Row {
     pub size: u16,
 }
 
+// Their order in the image.
 const ORDER: [Kind; 5] = [Kind::Hd, Kind::Th, Kind::Sr, Kind::Vr, Kind::Mm];
 
 // How many kinds there are.
