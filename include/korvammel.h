@@ -4,9 +4,9 @@
  * this table. Where it answers a number of the table, every lent array holds what it held before, except where the function says
  * otherwise. (korvammel_name answers a length.)
  *
- * The library is for x86-64 Linux, in C's own calling convention there. A call needs at most 1,024 bytes of stack. It uses the red zone,
- * the 128 bytes below the stack pointer, which are among these: an interrupt that comes in on the same stack has to leave them alone.
- * Of the C library it calls memset.
+ * The library is for x86-64 Linux, in C's own calling convention there. A call needs at most 3,072 bytes of stack (on words; the
+ * others under 1,024). It uses the red zone, the 128 bytes below the stack pointer, which are among these: an interrupt that comes in
+ * on the same stack has to leave them alone. Of the C library it calls memset.
  *
  * A pointer is never null, and is aligned for its type. It points to an array of the length that stands beside it, or of the length
  * in brackets. An array that a call writes shares no byte with another that the call takes.
