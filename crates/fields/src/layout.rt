@@ -2,9 +2,9 @@
 use crate::numbers::Found;
 use crate::numbers::Numbers;
 use isa::Reading;
-ghost use Prim.Native.Nat.{_+_, _*_, _^_, _<_, _≤_};
+ghost use Prim.Native.Nat.{_+_, _*_, _<_, _≤_};
 ghost use mathlib.Core.Path.{_≡_};
-ghost use Rattle.isa.specs.Layout.{bits, signed};
+ghost use Rattle.isa.specs.Layout.{signedField, immediateI, offsetJ};
 ghost use Rattle.fields.specs.Find.{found, wordFor};
 ghost use Rattle.fields.specs.Numbers.{numbers, sameNumbers, numbersOf, wordOf};
 
@@ -23,7 +23,7 @@ fn numbers_as(format: u32, opcode: u32, flags: u32, first: u32, second: u32, thi
 
 // The signed field in bits 11-3: its sign bit says whether all bits above are 1.
 fn short_signed(w: u32) -> u32
-    ensures { λ r. ⌜ r ≡ signed (2 ^ 8) (bits w 11 3) ⌝ }
+    ensures { λ r. ⌜ r ≡ signedField w immediateI ⌝ }
 {
     let field = w / 8 % 512;
     field + field / 256 * 0xFFFFFE00
@@ -31,7 +31,7 @@ fn short_signed(w: u32) -> u32
 
 // The signed field in bits 17-0.
 fn long_signed(w: u32) -> u32
-    ensures { λ r. ⌜ r ≡ signed (2 ^ 17) (bits w 17 0) ⌝ }
+    ensures { λ r. ⌜ r ≡ signedField w offsetJ ⌝ }
 {
     let field = w % 0x40000;
     field + field / 0x20000 * 0xFFFC0000
