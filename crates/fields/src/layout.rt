@@ -1,6 +1,12 @@
 // Words taken apart into numbers, and put together from them.
 use crate::numbers::Found;
 use crate::numbers::Numbers;
+use isa::PREFIX_C;
+use isa::PREFIX_I;
+use isa::PREFIX_J;
+use isa::PREFIX_M;
+use isa::PREFIX_MOVEI;
+use isa::PREFIX_R;
 use isa::Reading;
 ghost use Prim.Native.Nat.{_+_, _*_, _<_, _≤_};
 ghost use mathlib.Core.Path.{_≡_};
@@ -46,22 +52,22 @@ pub fn unpack(w: u32) -> Numbers
     let second = w / 0x1000 % 64;
     let short = short_signed(w);
     let long = long_signed(w);
-    if w / 0x40000000 == 0b00 {
+    if w / 0x40000000 == PREFIX_R {
         return numbers_as(0, opcode % 64, w / 2 % 8, first, second, w / 0x40 % 64);
     }
-    if w / 0x20000000 == 0b010 {
+    if w / 0x20000000 == PREFIX_I {
         return numbers_as(1, opcode % 32, w / 2 % 4, first, second, short);
     }
-    if w / 0x8000000 == 0b01100 {
+    if w / 0x8000000 == PREFIX_MOVEI {
         return numbers_as(2, opcode % 8, w / 2 % 2, first, w / 4 % 65536, 0);
     }
-    if w / 0x8000000 == 0b01110 {
+    if w / 0x8000000 == PREFIX_J {
         return numbers_as(3, opcode % 8, 0, first, long, 0);
     }
-    if w / 0x8000000 == 0b01111 {
+    if w / 0x8000000 == PREFIX_C {
         return numbers_as(4, opcode % 8, 0, first, second, 0);
     }
-    if w / 0x40000000 == 0b10 {
+    if w / 0x40000000 == PREFIX_M {
         return numbers_as(5, opcode % 64, 0, first, second, short);
     }
     numbers_as(6, 0, 0, 0, 0, 0)
@@ -89,7 +95,7 @@ fn pack(n: Numbers) -> u32
     let short = third % 512 * 8;
     if format == 0 {
         return place(
-            0,
+            PREFIX_R * 0x40000000,
             opcode % 64,
             first,
             register + third % 64 * 0x40 + flags % 8 * 2,
@@ -97,7 +103,7 @@ fn pack(n: Numbers) -> u32
     }
     if format == 1 {
         return place(
-            0x40000000,
+            PREFIX_I * 0x20000000,
             opcode % 32,
             first,
             register + short + flags % 4 * 2,
@@ -105,20 +111,20 @@ fn pack(n: Numbers) -> u32
     }
     if format == 2 {
         return place(
-            0x60000000,
+            PREFIX_MOVEI * 0x8000000,
             opcode % 8,
             first,
             second % 65536 * 4 + flags % 2 * 2,
         );
     }
     if format == 3 {
-        return place(0x70000000, opcode % 8, first, second % 0x40000);
+        return place(PREFIX_J * 0x8000000, opcode % 8, first, second % 0x40000);
     }
     if format == 4 {
-        return place(0x78000000, opcode % 8, first, register);
+        return place(PREFIX_C * 0x8000000, opcode % 8, first, register);
     }
     if format == 5 {
-        return place(0x80000000, opcode % 64, first, register + short);
+        return place(PREFIX_M * 0x40000000, opcode % 64, first, register + short);
     }
     0
 }

@@ -1,6 +1,7 @@
 // Instruction words of the house core: read into instructions, and written from them (document 01, "The words").
 mod field;
 mod instruction;
+mod layout;
 mod opcode;
 mod pack;
 mod read;
@@ -20,6 +21,12 @@ pub use instruction::Reading;
 pub use instruction::StoreOp;
 pub use instruction::UnaryOp;
 pub use instruction::Writing;
+pub use layout::PREFIX_C;
+pub use layout::PREFIX_I;
+pub use layout::PREFIX_J;
+pub use layout::PREFIX_M;
+pub use layout::PREFIX_MOVEI;
+pub use layout::PREFIX_R;
 pub use opcode::opcode_of;
 pub use read::read_word;
 pub use write::write_word;

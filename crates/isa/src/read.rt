@@ -7,6 +7,12 @@ use crate::instruction::MemoryOp;
 use crate::instruction::MoveiOp;
 use crate::instruction::Operation;
 use crate::instruction::Reading;
+use crate::layout::PREFIX_C;
+use crate::layout::PREFIX_I;
+use crate::layout::PREFIX_J;
+use crate::layout::PREFIX_M;
+use crate::layout::PREFIX_MOVEI;
+use crate::layout::PREFIX_R;
 use crate::opcode;
 use crate::opcode::ControlOpcode;
 use crate::opcode::JumpOpcode;
@@ -189,22 +195,22 @@ fn read_m(w: u32) -> Reading
 pub fn read_word(w: u32) -> Reading
     ensures { λ r. ⌜ reading r ≡ read w ⌝ }
 {
-    if w / 0x40000000 == 0b00 {
+    if w / 0x40000000 == PREFIX_R {
         return read_r(w);
     }
-    if w / 0x40000000 == 0b10 {
+    if w / 0x40000000 == PREFIX_M {
         return read_m(w);
     }
-    if w / 0x20000000 == 0b010 {
+    if w / 0x20000000 == PREFIX_I {
         return read_i(w);
     }
-    if w / 0x8000000 == 0b01100 {
+    if w / 0x8000000 == PREFIX_MOVEI {
         return read_movei(w);
     }
-    if w / 0x8000000 == 0b01110 {
+    if w / 0x8000000 == PREFIX_J {
         return read_j(w);
     }
-    if w / 0x8000000 == 0b01111 {
+    if w / 0x8000000 == PREFIX_C {
         return read_c(w);
     }
     Reading::Undefined
