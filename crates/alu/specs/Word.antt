@@ -12,10 +12,6 @@ isSet x k = eqb (x / 2 ^ k % 2) 1
 abbrev pub negative : ℕ → ℕ → Bool
 negative bits x = leb (2 ^ (bits - 1)) x
 
--- x, a signed number of `from` bits, as one of `to` bits: each new bit is as the highest bit of x
-abbrev pub extended : ℕ → ℕ → ℕ → ℕ
-extended from to x = cond (negative from x) (x + (2 ^ to - 2 ^ from)) x
-
 -- the place of a word in the signed order of all words, from 0 on: the negative ones come first
 abbrev pub rank : ℕ → ℕ
 rank x = cond (negative 32 x) (x - 2 ^ 31) (x + 2 ^ 31)

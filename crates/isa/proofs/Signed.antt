@@ -3,7 +3,7 @@ use Prim.Native.Nat.{ℕ, _+_, _*_, _-_, _%_, _^_, _<_}
 use mathlib.Core.Bool.{Bool, true, false, cond}
 use mathlib.Core.Path.{_≡_, refl}
 use native.Mathlib.Nat.{add-mul-mod-self-left, mod-eq-of-lt}
-use lib.Dec.{ltb}
+use lib.Dec.{leb}
 use borrow.Author.Tests.{eq-eqb, eqb-true}
 use Rattle.isa.specs.Layout.{signed, truncated, fits-signed}
 
@@ -11,11 +11,11 @@ use Rattle.isa.specs.Layout.{signed, truncated, fits-signed}
 module _ (h k : ℕ) (e : 2 * h * k ≡ 2 ^ 32 - 2 * h) where
   pub truncated-signed : (n : ℕ) → n < 2 * h → truncated h (signed h n) ≡ n
   unfolding signed
-  truncated-signed n l = go (ltb n h)
+  truncated-signed n l = go (leb h n)
     where
-      go : (t : Bool) → cond t n (n + (2 ^ 32 - 2 * h)) % (2 * h) ≡ n
-      go true = mod-eq-of-lt l
-      go false = rw (← e, add-mul-mod-self-left n (2 * h) k) (mod-eq-of-lt l)
+      go : (t : Bool) → cond t (n + (2 ^ 32 - 2 * h)) n % (2 * h) ≡ n
+      go true = rw (← e, add-mul-mod-self-left n (2 * h) k) (mod-eq-of-lt l)
+      go false = mod-eq-of-lt l
 
   pub fits-signed-field : (n : ℕ) → n < 2 * h → fits-signed h (signed h n) ≡ true
   unfolding fits-signed

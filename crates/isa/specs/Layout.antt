@@ -2,7 +2,7 @@
 use Prim.Native.Nat.{ℕ, suc, _+_, _-_, _*_, _/_, _%_, _^_}
 use mathlib.Core.Bool.{Bool, cond}
 use mathlib.Core.List.{List, [], _∷_}
-use lib.Dec.{eqb, ltb}
+use lib.Dec.{eqb, leb, ltb}
 
 -- the bits of a word from `high` down to `low`, as a number
 abbrev pub bits : ℕ → ℕ → ℕ → ℕ
@@ -167,9 +167,13 @@ layoutM = formatM ∷ opcodeM ∷ firstRegister ∷ secondRegister ∷ offsetM �
 abbrev pub prefixM : ℕ
 prefixM = 0b10
 
+-- x, a signed number whose sign bit weighs h, as one of n bits: each new bit is as the sign bit
+abbrev pub extended : ℕ → ℕ → ℕ → ℕ
+extended n h x = cond (leb h x) (x + (2 ^ n - 2 * h)) x
+
 -- A signed number is held modulo 2^32. A signed field whose sign bit weighs h, as the number that it stands for;
 unfoldable pub signed : ℕ → ℕ → ℕ
-signed h n = cond (ltb n h) n (n + (2 ^ 32 - 2 * h))
+signed h n = extended 32 h n
 
 -- the field of a number;
 abbrev pub truncated : ℕ → ℕ → ℕ
