@@ -10,7 +10,6 @@ use isa::PREFIX_R;
 use isa::Reading;
 ghost use Prim.Native.Nat.{_+_, _*_, _<_, _≤_};
 ghost use mathlib.Core.Path.{_≡_};
-ghost use Rattle.isa.specs.Layout.{signedField, immediateI, offsetJ};
 ghost use Rattle.fields.specs.Find.{found, wordFor};
 ghost use Rattle.fields.specs.Numbers.{numbers, sameNumbers, numbersOf, wordOf};
 
@@ -27,22 +26,6 @@ fn numbers_as(format: u32, opcode: u32, flags: u32, first: u32, second: u32, thi
     }
 }
 
-// The signed field in bits 11-3: its sign bit says whether all bits above are 1.
-fn short_signed(w: u32) -> u32
-    ensures { λ r. ⌜ r ≡ signedField w immediateI ⌝ }
-{
-    let field = w / 8 % 512;
-    field + field / 256 * 0xFFFFFE00
-}
-
-// The signed field in bits 17-0.
-fn long_signed(w: u32) -> u32
-    ensures { λ r. ⌜ r ≡ signedField w offsetJ ⌝ }
-{
-    let field = w % 0x40000;
-    field + field / 0x20000 * 0xFFFC0000
-}
-
 // The numbers of a word, by the format that its upper bits say.
 pub fn unpack(w: u32) -> Numbers
     ensures { λ r. ⌜ r ≡ numbersOf w ⌝ }
@@ -50,8 +33,8 @@ pub fn unpack(w: u32) -> Numbers
     let opcode = w / 0x1000000;
     let first = w / 0x40000 % 64;
     let second = w / 0x1000 % 64;
-    let short = short_signed(w);
-    let long = long_signed(w);
+    let short = isa::short_signed(w);
+    let long = isa::long_signed(w);
     if w / 0x40000000 == PREFIX_R {
         return numbers_as(0, opcode % 64, w / 2 % 8, first, second, w / 0x40 % 64);
     }

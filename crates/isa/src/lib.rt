@@ -8,6 +8,8 @@ mod read;
 mod rule;
 mod write;
 
+pub use field::long_signed;
+pub use field::short_signed;
 pub use instruction::BinaryOp;
 pub use instruction::CompareOp;
 pub use instruction::ControlOp;

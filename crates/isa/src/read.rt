@@ -49,7 +49,7 @@ fn as_i(w: u32, op: Operation) -> Reading
     let flags = w / 2 % 4;
     let d = w / 0x40000 % 64;
     let a = w / 0x1000 % 64;
-    let immediate = field::sign_extend(0x100, w / 8 % 512);
+    let immediate = field::short_signed(w);
     if (w % 2 == 0) & rule::i_allows(op, flags, d) {
         Reading::Defined(Instruction::I {
             op,
@@ -85,7 +85,7 @@ fn as_j(w: u32, op: JumpOp) -> Reading
     ensures { λ r. ⌜ reading r ≡ asJ w op ⌝ }
 {
     let register = w / 0x40000 % 64;
-    let offset = field::sign_extend(0x20000, w % 0x40000);
+    let offset = field::long_signed(w);
     if rule::j_allows(op, register, offset) {
         Reading::Defined(Instruction::J {
             op,
@@ -114,7 +114,7 @@ fn as_m(w: u32, op: MemoryOp) -> Reading
 {
     let register = w / 0x40000 % 64;
     let base = w / 0x1000 % 64;
-    let offset = field::sign_extend(0x100, w / 8 % 512);
+    let offset = field::short_signed(w);
     if w / 2 % 4 != 0 {
         return Reading::NotFitted;
     }
