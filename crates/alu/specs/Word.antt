@@ -1,12 +1,8 @@
--- Words: their bits, and the signed numbers that they stand for.
-use Prim.Native.Nat.{ℕ, _+_, _-_, _/_, _%_, _^_}
+-- Words, and the signed numbers that they stand for.
+use Prim.Native.Nat.{ℕ, _+_, _-_, _^_}
 use mathlib.Core.Bool.{Bool, cond}
-use lib.Dec.{eqb, leb}
+use lib.Dec.{leb}
 use lib.IntN.{ℤ, pos, subℕ}
-
--- bit k of x is 1
-abbrev pub isSet : ℕ → ℕ → Bool
-isSet x k = eqb (x / 2 ^ k % 2) 1
 
 -- whether x, a number of `bits` bits, stands for a negative number: its highest bit is 1
 abbrev pub negative : ℕ → ℕ → Bool
