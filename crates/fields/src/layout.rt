@@ -56,7 +56,8 @@ pub fn unpack(w: u32) -> Numbers
     numbers_as(6, 0, 0, 0, 0, 0)
 }
 
-// A word from its format's bits, its opcode, its first field and the rest.
+// A word from its format's bits, its opcode, its first field and the rest. isa's own packing asks for room, which an open call may not; here
+// each number is reduced first.
 fn place(format: u32, opcode: u32, first: u32, rest: u32) -> u32
     requires { ⌜ (format + opcode * 0x1000000 + 0x1000000 ≤ 0x100000000) × (first < 64) × (rest < 0x40000) ⌝ }
     ensures { λ r. ⌜ r ≡ format + opcode * 0x1000000 + first * 0x40000 + rest ⌝ }
