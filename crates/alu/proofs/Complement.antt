@@ -5,7 +5,6 @@ use native.Mathlib.Nat.{add-mul, one-mul, div-add-mod', div-lt-iff-lt-mul, mod-l
 use native.Mathlib.Omega.{arith}
 use lib.Arith.{digits-div, digits-mod}
 use lib.Pow.{pow-pos, pow-add, shr-le}
-use Rattle.alu.specs.Word.{negative}
 
 pub complement-div : (m p a : ℕ) → 0 < p → a < m * p → (m * p - 1 - a) / p ≡ m - 1 - a / p
 complement-div m p a hp h =

@@ -7,7 +7,7 @@ use native.Mathlib.Omega.{arith}
 use lib.Dec.{eqb, leb}
 use lib.Count.{leadingZeros, trailingZeros, under, leading-unique}
 use borrow.Author.Tests.{leb-true, leb-false}
-use Rattle.alu.specs.Word.{isSet}
+use Rattle.bits.specs.Bit.{isSet}
 use Rattle.alu.specs.Unary.{zerosAbove, zerosBelow}
 
 -- the highest bit of a number of k + 1 bits says whether it is at least 2 ^ k

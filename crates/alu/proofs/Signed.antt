@@ -11,7 +11,8 @@ use lib.IntN.{pos, negsuc, negℤ, _*ℤ_}
 use lib.Pow.{pow-pos, pow-mono, pow-add, shr-le}
 use lib.Signed.{ltZ, leZ, shrZ}
 use borrow.Author.Tests.{leb-true, leb-false, le-leb, lt-leb, lt-ltb}
-use Rattle.alu.specs.Word.{negative, extended, rank, value}
+use Rattle.isa.specs.Layout.{extended}
+use Rattle.alu.specs.Word.{rank, value}
 use Rattle.alu.specs.Binary.{distance}
 use Rattle.alu.specs.Claims.{MulhiIsSigned, AshrIsSigned, Sext8IsSigned, Sext16IsSigned, SignedOrder}
 use Rattle.alu.proofs.Complement.{complement-div, ashr-negative, ashr-positive}
@@ -31,14 +32,14 @@ value-below n h = value-negative 32 (2 ^ 32 - 1 - n) (omega arith) (omega arith)
 record Positive (x : ℕ) : Type 0 where
   below : x < 2 ^ 31
   is : value 32 x ≡ pos x
-  wide : extended 32 64 x ≡ x
+  wide : extended 64 (2 ^ 31) x ≡ x
   place : rank x ≡ x + 2 ^ 31
 
 record Negative (x n : ℕ) : Type 0 where
   word : x ≡ 2 ^ 32 - 1 - n
   below : n < 2 ^ 31
   is : value 32 x ≡ negsuc n
-  wide : extended 32 64 x ≡ 2 ^ 64 - suc n
+  wide : extended 64 (2 ^ 31) x ≡ 2 ^ 64 - suc n
   place : rank x ≡ 2 ^ 31 - suc n
 
 Sign : ℕ → Type 0
@@ -95,7 +96,7 @@ signed-order x y hx hy =
 
 -- ---- ashr
 
-shifted : (x n : ℕ) → n ≤ 32 → x < 2 ^ 32 → Sign x → value 32 (extended 32 64 x / 2 ^ n % 2 ^ 32) ≡ shrZ (value 32 x) (2 ^ n)
+shifted : (x n : ℕ) → n ≤ 32 → x < 2 ^ 32 → Sign x → value 32 (extended 64 (2 ^ 31) x / 2 ^ n % 2 ^ 32) ≡ shrZ (value 32 x) (2 ^ n)
 unfolding Sign
 shifted x n hn hx (inl p) =
     ap (λ (w : ℕ). value 32 (w / 2 ^ n % 2 ^ 32)) (p .wide)
@@ -103,7 +104,7 @@ shifted x n hn hx (inl p) =
     ∙ value-positive 32 (x / 2 ^ n) (omega (arith, shr-le x n, p .below))
     ∙ sym (ap (λ z. shrZ z (2 ^ n)) (p .is))
 shifted x n hn hx (inr p) =
-    ap (λ (w : ℕ). value 32 (w / 2 ^ n % 2 ^ 32)) (let e : extended 32 64 x ≡ x + (2 ^ 64 - 2 ^ 32) = p .wide ∙ omega (arith, p .word, p .below) in e)
+    ap (λ (w : ℕ). value 32 (w / 2 ^ n % 2 ^ 32)) (let e : extended 64 (2 ^ 31) x ≡ x + (2 ^ 64 - 2 ^ 32) = p .wide ∙ omega (arith, p .word, p .below) in e)
     ∙ ap (value 32) (ashr-negative x n hx hn ∙ ap (λ (a : ℕ). 2 ^ 32 - 1 - a / 2 ^ n) (let e : 2 ^ 32 - 1 - x ≡ 2 ^ 32 - suc x = omega arith in e))
     ∙ value-below ((2 ^ 32 - suc x) / 2 ^ n) (omega (arith, shr-le (2 ^ 32 - suc x) n, p .below))
     ∙ sym (ap (λ z. shrZ z (2 ^ n)) (p .is))
@@ -113,7 +114,7 @@ ashr-signed x y hx = shifted x (distance y) (omega arith) hx (sign x hx)
 
 -- ---- sext8 and sext16
 
-extension : (from x : ℕ) → 0 < from → from ≤ 32 → x < 2 ^ from → value 32 (extended from 32 x) ≡ value from x
+extension : (from x : ℕ) → 0 < from → from ≤ 32 → x < 2 ^ from → value 32 (extended 32 (2 ^ (from - 1)) x) ≡ value from x
 extension from x h0 h l = go (leb (2 ^ (from - 1)) x) refl
   where
     half : 2 ^ (from - 1) ≤ 2 ^ 31
@@ -122,14 +123,14 @@ extension from x h0 h l = go (leb (2 ^ (from - 1)) x) refl
     whole : 2 ^ from ≡ 2 ^ (from - 1) * 2
     whole = ap (λ (n : ℕ). 2 ^ n) (let e : from ≡ from - 1 + 1 = omega arith in e) ∙ pow-add 2 (from - 1) 1
 
-    go : (t : Bool) → leb (2 ^ (from - 1)) x ≡ t → value 32 (extended from 32 x) ≡ value from x
+    go : (t : Bool) → leb (2 ^ (from - 1)) x ≡ t → value 32 (extended 32 (2 ^ (from - 1)) x) ≡ value from x
     go false e =
         let b : x < 2 ^ (from - 1) = leb-false (2 ^ (from - 1)) x e in
-        ap (λ t. value 32 (cond t (x + (2 ^ 32 - 2 ^ from)) x)) e ∙ value-positive 32 x (omega (arith, half)) ∙ sym (value-positive from x b)
+        ap (λ t. value 32 (cond t (x + (2 ^ 32 - 2 * 2 ^ (from - 1))) x)) e ∙ value-positive 32 x (omega (arith, half)) ∙ sym (value-positive from x b)
     go true e =
         let b : 2 ^ (from - 1) ≤ x = leb-true (2 ^ (from - 1)) x e in
-        ap (λ t. value 32 (cond t (x + (2 ^ 32 - 2 ^ from)) x)) e
-        ∙ value-negative 32 (x + (2 ^ 32 - 2 ^ from)) (omega (arith, half, whole)) (omega (arith, half, whole))
+        ap (λ t. value 32 (cond t (x + (2 ^ 32 - 2 * 2 ^ (from - 1))) x)) e
+        ∙ value-negative 32 (x + (2 ^ 32 - 2 * 2 ^ (from - 1))) (omega (arith, half, whole)) (omega (arith, half, whole))
         ∙ ap negsuc (omega (arith, half, whole))
         ∙ sym (value-negative from x b l)
 
@@ -166,7 +167,7 @@ opposite x b hx hb = ap (λ (n : ℕ). value 32 (n % 2 ^ 64 / 2 ^ 32)) (mul-sub 
         ∙ ap (value 32) (complement-div (2 ^ 32) (2 ^ 32) n (pow-pos 32) (omega arith))
         ∙ value-below (n / 2 ^ 32) (omega arith)
 
-multiplied : (x y : ℕ) → Sign x → Sign y → value 32 (high (extended 32 64 x) (extended 32 64 y)) ≡ shrZ (value 32 x *ℤ value 32 y) (2 ^ 32)
+multiplied : (x y : ℕ) → Sign x → Sign y → value 32 (high (extended 64 (2 ^ 31) x) (extended 64 (2 ^ 31) y)) ≡ shrZ (value 32 x *ℤ value 32 y) (2 ^ 32)
 unfolding Sign high
 multiplied x y (inl p) (inl q) =
     let b : x * y ≤ 2 ^ 62 = mul-le-mul {n₂ = 2 ^ 31} {m₂ = 2 ^ 31} (omega arith) (omega arith) in

@@ -3,7 +3,7 @@ use Prim.Native.Nat.{ℕ, _+_, _-_, _*_, _/_, _%_, _^_}
 use lib.Bits.{bitAnd, bitOr, bitXor}
 use Rattle.isa.specs.declared.instruction.BinaryOp.{BinaryOp}
 use Rattle.isa.specs.declared.instruction.BinaryOp.the-variants.{Or, And, Xor, Add, Sub, Mullo, Mulhi, Mulhu, Ashr, Shr, Shl}
-use Rattle.alu.specs.Word.{extended}
+use Rattle.isa.specs.Layout.{extended}
 
 -- "Shifts use the low five bits of b."
 abbrev pub distance : ℕ → ℕ
@@ -19,8 +19,8 @@ binary Xor x y = bitXor x y
 binary Add x y = (x + y) % 2 ^ 32
 binary Sub x y = (x + (2 ^ 32 - y)) % 2 ^ 32
 binary Mullo x y = x * y % 2 ^ 32
-binary Mulhi x y = extended 32 64 x * extended 32 64 y % 2 ^ 64 / 2 ^ 32
+binary Mulhi x y = extended 64 (2 ^ 31) x * extended 64 (2 ^ 31) y % 2 ^ 64 / 2 ^ 32
 binary Mulhu x y = x * y / 2 ^ 32
-binary Ashr x y = extended 32 64 x / 2 ^ distance y % 2 ^ 32
+binary Ashr x y = extended 64 (2 ^ 31) x / 2 ^ distance y % 2 ^ 32
 binary Shr x y = x / 2 ^ distance y
 binary Shl x y = x * 2 ^ distance y % 2 ^ 32

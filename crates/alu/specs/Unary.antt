@@ -1,9 +1,10 @@
 -- The operations on one word (document 01, "The words", R).
 use Prim.Native.Nat.{ℕ, zero, suc, _/_, _%_, _^_}
 use mathlib.Core.Bool.{cond}
+use Rattle.bits.specs.Bit.{isSet}
 use Rattle.isa.specs.declared.instruction.UnaryOp.{UnaryOp}
 use Rattle.isa.specs.declared.instruction.UnaryOp.the-variants.{Clz, Ctz, Move, Sext8, Sext16}
-use Rattle.alu.specs.Word.{isSet, extended}
+use Rattle.isa.specs.Layout.{extended}
 
 -- the zero bits above the highest one bit of the k lowest bits, counted from the top; all k where no bit is 1
 unfoldable pub zerosAbove : ℕ → ℕ → ℕ
@@ -20,5 +21,5 @@ abbrev pub unary : UnaryOp → ℕ → ℕ
 unary Clz x = zerosAbove 32 x
 unary Ctz x = zerosBelow 32 x
 unary Move x = x
-unary Sext8 x = extended 8 32 (x % 2 ^ 8)
-unary Sext16 x = extended 16 32 (x % 2 ^ 16)
+unary Sext8 x = extended 32 (2 ^ 7) (x % 2 ^ 8)
+unary Sext16 x = extended 32 (2 ^ 15) (x % 2 ^ 16)

@@ -1,20 +1,12 @@
--- Words: their bits, and the signed numbers that they stand for.
-use Prim.Native.Nat.{ℕ, _+_, _-_, _/_, _%_, _^_}
+-- Words, and the signed numbers that they stand for.
+use Prim.Native.Nat.{ℕ, _+_, _-_, _^_}
 use mathlib.Core.Bool.{Bool, cond}
-use lib.Dec.{eqb, leb}
+use lib.Dec.{leb}
 use lib.IntN.{ℤ, pos, subℕ}
-
--- bit k of x is 1
-abbrev pub isSet : ℕ → ℕ → Bool
-isSet x k = eqb (x / 2 ^ k % 2) 1
 
 -- whether x, a number of `bits` bits, stands for a negative number: its highest bit is 1
 abbrev pub negative : ℕ → ℕ → Bool
 negative bits x = leb (2 ^ (bits - 1)) x
-
--- x, a signed number of `from` bits, as one of `to` bits: each new bit is as the highest bit of x
-abbrev pub extended : ℕ → ℕ → ℕ → ℕ
-extended from to x = cond (negative from x) (x + (2 ^ to - 2 ^ from)) x
 
 -- the place of a word in the signed order of all words, from 0 on: the negative ones come first
 abbrev pub rank : ℕ → ℕ

@@ -7,7 +7,7 @@ use mathlib.Core.Path.{_≡_, refl, sym, subst, _∙_}
 use native.Mathlib.Omega.{arith}
 use lib.ListN.{length, getD, set, length-set}
 use lib.Seq.{getD-set-other}
-use Rattle.alu.specs.Word.{isSet}
+use Rattle.bits.specs.Bit.{isSet}
 use Rattle.machine.specs.State.{scalarPlace, lanePlace}
 use Rattle.memory.specs.Operation.{each}
 use Rattle.vector.specs.Lanes.{lane, blended}

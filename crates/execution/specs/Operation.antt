@@ -7,7 +7,7 @@ use Rattle.alu.specs.Compare.{compare}
 use Rattle.compares.specs.Lanes.{compareLanes}
 use Rattle.vector.specs.Lanes.{lane, binaryLanes, unaryLanes, shuffled}
 use Rattle.alu.specs.Unary.{unary}
-use Rattle.alu.specs.Word.{isSet}
+use Rattle.bits.specs.Bit.{isSet}
 use Rattle.execution.specs.Operand.{source, isVector, word, lanes}
 use Rattle.execution.specs.Registers.{withScalar, laneMask, withLanesOn}
 use Rattle.execution.specs.Types.{Source, Scalar, Operation, Binary, Unary, Compare, Shuffle, GetLane, BinaryOp, UnaryOp, CompareOp}

@@ -1,11 +1,10 @@
 -- What a word of scalars alone is read as, by its top byte and its low bits: one law a format.
-use Prim.Native.Nat.{ℕ, _+_, _-_, _*_, _%_, _^_, _≤_, _<_}
-use mathlib.Core.Bool.{Bool, true, false, not, cond}
+use Prim.Native.Nat.{ℕ, _%_, _^_, _<_}
+use mathlib.Core.Bool.{true, not}
 use mathlib.Core.Path.{_≡_, refl, _∙_}
-use native.Mathlib.Nat.{mod-eq-of-lt, mod-eq-sub-mod}
 use native.Mathlib.Omega.{arith}
-use lib.Dec.{eqb, ltb}
-use borrow.Author.Tests.{ne-eqb, ltb-true, ltb-false}
+use lib.Dec.{eqb}
+use borrow.Author.Tests.{ne-eqb}
 use Rattle.answer.specs.Answer.{given}
 use Rattle.isa.proofs.Answers.{accept, accept-one}
 use Rattle.isa.proofs.Formats.{is-R, is-I, is-Movei, is-J, is-M}
@@ -82,31 +81,3 @@ module _ (w : ℕ) where
       let bits21 : bits w 2 1 ≡ 0 = omega arith in
       let bit0 : bits w 0 0 ≡ 0 = omega arith in
       is-M reads w format ∙ rw (opcode, finds-M op, bits21, bit0) (accept _ _ (refl, (allowed, tt)))
-
--- A signed field as the code has it: half of its room is added, and taken away modulo 2^32.
-module _ (half n r : ℕ) (small : n < 2 * half) (room : 2 * half ≤ 2 ^ 32) (bound : r < 2 ^ 32)
-    (e : (r + half) % 2 ^ 32 ≡ (n + half) % (2 * half)) where
-  negative : half ≤ n → (r + half) % 2 ^ 32 ≡ n - half → (over : Bool) → ltb (r + half) (2 ^ 32) ≡ over → r ≡ n + (2 ^ 32 - 2 * half)
-  negative k m true h =
-      let l = ltb-true (r + half) (2 ^ 32) h in
-      let f : (r + half) % 2 ^ 32 ≡ r + half = mod-eq-of-lt l in
-      absurd (omega arith)
-  negative k m false h =
-      let l = ltb-false (r + half) (2 ^ 32) h in
-      let f : (r + half) % 2 ^ 32 ≡ r + half - 2 ^ 32 = mod-eq-sub-mod l ∙ mod-eq-of-lt (omega arith) in
-      omega arith
-
-  by-sign : (t : Bool) → ltb n half ≡ t → r ≡ cond t n (n + (2 ^ 32 - 2 * half))
-  by-sign true h =
-      let k = ltb-true n half h in
-      let f : (n + half) % (2 * half) ≡ n + half = mod-eq-of-lt (omega arith) in
-      omega arith
-  by-sign false h =
-      let k = ltb-false n half h in
-      let g : n + half - 2 * half ≡ n - half = omega arith in
-      let f : (n + half - 2 * half) % (2 * half) ≡ n - half = rw g (mod-eq-of-lt (omega arith)) in
-      negative k (e ∙ mod-eq-sub-mod (omega arith) ∙ f) (ltb (r + half) (2 ^ 32)) refl
-
-  pub signed-field : r ≡ signed half n
-  unfolding signed
-  signed-field = by-sign (ltb n half) refl

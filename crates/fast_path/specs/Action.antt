@@ -8,15 +8,15 @@ use Rattle.execution.specs.Effect.{Step, step, executed, beside, next}
 use Rattle.execution.specs.Issue.{executeWord, issue, issueSetsStatus}
 use Rattle.execution.specs.Jump.{jumpBy}
 use Rattle.execution.specs.Registers.{withScalar}
-use Rattle.isa.specs.Layout.{bits}
+use Rattle.isa.specs.Layout.{field, firstRegister}
 use Rattle.machine.specs.State.{state}
 use Rattle.fast_path.specs.Types.{Action, Write, Next, Jump, Defer, Machine, Stays}
 
--- a word's top byte says its format and an opcode of it, and bits 23-18 a register that a scalar may be written to
+-- a word's top byte says its format and an opcode of it, and its first register is one that a scalar may be written to
 pub record HasOpcode (w format count opcode : ℕ) : Type 0 where
   pub byte : w / 2 ^ 24 ≡ format + opcode
   pub listed : opcode < count
-  pub free : bits w 23 18 < 63
+  pub free : field w firstRegister < 63
 
 -- the step that an action is, of a word at address pc whose destination is d
 abbrev pub stepOf : ℕ → ℕ → ℕ → ℕ → List ℕ → Action → Option Step
@@ -31,7 +31,7 @@ Executes words enabled t pc w room memory (some s) = executeWord words enabled t
 Executes words enabled t pc w room memory none = Unit {0}
 
 abbrev pub Acts : ℕ → ℕ → ℕ → ℕ → ℕ → List ℕ → List ℕ → Action → Type 0
-Acts words enabled t pc w room memory a = Executes words enabled t pc w room memory (stepOf words t pc (bits w 23 18) room a)
+Acts words enabled t pc w room memory a = Executes words enabled t pc w room memory (stepOf words t pc (field w firstRegister) room a)
 
 -- the same of a word that reads memory, wherever it stands, and of one on registers alone
 abbrev pub ActsOn : ℕ → ℕ → List ℕ → List ℕ → Action → Type 0

@@ -1,7 +1,6 @@
-// Fields of a word.
+// The low bits of a word.
 ghost use mathlib.Core.Path.{_≡_};
 ghost use Prim.Native.Nat.{_%_, _^_};
-ghost use Rattle.isa.specs.Layout.{bits, signed};
 
 // Bits 5-0: an R word on scalars alone has none of them.
 pub fn flags_r(w: u32) -> u32
@@ -15,18 +14,4 @@ pub fn flags_i(w: u32) -> u32
     ensures { λ r. ⌜ r ≡ w % 2 ^ 3 ⌝ }
 {
     w % 8
-}
-
-// The signed field of I and M. Half of what a field has room for is added and taken away again, of which the compiler makes two shifts.
-pub fn immediate(w: u32) -> u32
-    ensures { λ r. ⌜ r ≡ signed (2 ^ 8) (bits w 11 3) ⌝ }
-{
-    std::num::wrapping_sub_u32((w / 8 % 512 + 256) % 512, 256)
-}
-
-// The signed field of J.
-pub fn offset(w: u32) -> u32
-    ensures { λ r. ⌜ r ≡ signed (2 ^ 17) (bits w 17 0) ⌝ }
-{
-    std::num::wrapping_sub_u32((w % 0x40000 + 0x20000) % 0x40000, 0x20000)
 }

@@ -3,7 +3,7 @@ ghost use mathlib.Core.Path.{_≡_};
 ghost use Prim.Native.Nat.{_+_, _<_};
 ghost use Rattle.execution.specs.Effect.{advanced};
 ghost use Rattle.execution.specs.Registers.{scalar, withScalar, InRoom};
-ghost use Rattle.isa.specs.Layout.{bits};
+ghost use Rattle.isa.specs.Layout.{field, firstRegister, secondRegister, thirdRegister};
 
 pub const PROGRAM_COUNTER: u32 = 63;
 
@@ -23,7 +23,7 @@ pub fn set_scalar(room: &mut [u32], t: usize, i: u32, x: u32)
 
 // The number of the register in bits 23-18.
 pub fn register(w: u32) -> usize
-    ensures { λ r. ⌜ r ≡ bits w 23 18 ⌝ }
+    ensures { λ r. ⌜ r ≡ field w firstRegister ⌝ }
 {
     (w / 0x40000 % 64) as usize
 }
@@ -31,21 +31,21 @@ pub fn register(w: u32) -> usize
 // What is in that register, and in those of operands a and b.
 pub fn operand_d(room: &[u32], t: usize, w: u32) -> u32
     requires { ⌜ InRoom (now room) t ⌝ }
-    ensures { λ r. ⌜ r ≡ scalar (now (room .entry)) t (bits w 23 18) ⌝ }
+    ensures { λ r. ⌜ r ≡ scalar (now (room .entry)) t (field w firstRegister) ⌝ }
 {
     scalar(room, t, w / 0x40000 % 64)
 }
 
 pub fn operand_a(room: &[u32], t: usize, w: u32) -> u32
     requires { ⌜ InRoom (now room) t ⌝ }
-    ensures { λ r. ⌜ r ≡ scalar (now (room .entry)) t (bits w 17 12) ⌝ }
+    ensures { λ r. ⌜ r ≡ scalar (now (room .entry)) t (field w secondRegister) ⌝ }
 {
     scalar(room, t, w / 0x1000 % 64)
 }
 
 pub fn operand_b(room: &[u32], t: usize, w: u32) -> u32
     requires { ⌜ InRoom (now room) t ⌝ }
-    ensures { λ r. ⌜ r ≡ scalar (now (room .entry)) t (bits w 11 6) ⌝ }
+    ensures { λ r. ⌜ r ≡ scalar (now (room .entry)) t (field w thirdRegister) ⌝ }
 {
     scalar(room, t, w / 0x40 % 64)
 }

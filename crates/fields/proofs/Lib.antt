@@ -1,4 +1,3 @@
 -- Laws that belong to no one function, and the proofs of what specs/ claims.
-pub mod Extended
 pub mod Again
 pub mod Search

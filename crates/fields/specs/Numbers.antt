@@ -3,7 +3,7 @@ use Prim.Native.Nat.{ℕ, _%_, _^_}
 use mathlib.Core.Bool.{Bool, _&&_, cond}
 use mathlib.Core.List.{List, [], _∷_}
 use lib.Dec.{eqb}
-use Rattle.isa.specs.Layout.{bits, signed, Part, width, pack, layoutR, layoutI, layoutMovei, layoutJ, layoutC, layoutM, prefixR, prefixI, prefixMovei, prefixJ, prefixC, prefixM}
+use Rattle.isa.specs.Layout.{Part, width, field, signedField, pack, firstRegister, secondRegister, thirdRegister, opcodeR, vectorFlagsR, layoutR, prefixR, opcodeI, immediateI, vectorFlagsI, layoutI, prefixI, opcodeMovei, immediateMovei, vectorFlag, layoutMovei, prefixMovei, opcodeJ, offsetJ, layoutJ, prefixJ, opcodeC, layoutC, prefixC, opcodeM, offsetM, layoutM, prefixM}
 use Rattle.isa.specs.Read.{Formats, byFormat}
 use Rattle.fields.specs.Types.{Numbers}
 
@@ -21,27 +21,27 @@ sameNumbers a b =
 
 -- "R: .. opcode 29-24, d 23-18, a 17-12, b 11-6, .. vector flags bit 3 (d), 2 (a), 1 (b)."
 abbrev pub unpackR : ℕ → Numbers
-unpackR w = numbers 0 (bits w 29 24) (bits w 3 1) (bits w 23 18) (bits w 17 12) (bits w 11 6)
+unpackR w = numbers 0 (field w opcodeR) (field w vectorFlagsR) (field w firstRegister) (field w secondRegister) (field w thirdRegister)
 
 -- "I: .. opcode 28-24, d 23-18, a 17-12, signed immediate 11-3, flags bit 2 (d), 1 (a)."
 abbrev pub unpackI : ℕ → Numbers
-unpackI w = numbers 1 (bits w 28 24) (bits w 2 1) (bits w 23 18) (bits w 17 12) (signed (2 ^ 8) (bits w 11 3))
+unpackI w = numbers 1 (field w opcodeI) (field w vectorFlagsI) (field w firstRegister) (field w secondRegister) (signedField w immediateI)
 
 -- "MOVEI: .. opcode 26-24, d 23-18, immediate 17-2, vector flag bit 1."
 abbrev pub unpackMovei : ℕ → Numbers
-unpackMovei w = numbers 2 (bits w 26 24) (bits w 1 1) (bits w 23 18) (bits w 17 2) 0
+unpackMovei w = numbers 2 (field w opcodeMovei) (field w vectorFlag) (field w firstRegister) (field w immediateMovei) 0
 
 -- "J: .. opcode 26-24, register 23-18, signed byte offset 17-0"
 abbrev pub unpackJ : ℕ → Numbers
-unpackJ w = numbers 3 (bits w 26 24) 0 (bits w 23 18) (signed (2 ^ 17) (bits w 17 0)) 0
+unpackJ w = numbers 3 (field w opcodeJ) 0 (field w firstRegister) (signedField w offsetJ) 0
 
 -- "C: .. opcode 26-24, first register 23-18, second 17-12."
 abbrev pub unpackC : ℕ → Numbers
-unpackC w = numbers 4 (bits w 26 24) 0 (bits w 23 18) (bits w 17 12) 0
+unpackC w = numbers 4 (field w opcodeC) 0 (field w firstRegister) (field w secondRegister) 0
 
 -- "M: .. opcode 29-24, register 23-18, scalar base 17-12, signed offset 11-3"
 abbrev pub unpackM : ℕ → Numbers
-unpackM w = numbers 5 (bits w 29 24) 0 (bits w 23 18) (bits w 17 12) (signed (2 ^ 8) (bits w 11 3))
+unpackM w = numbers 5 (field w opcodeM) 0 (field w firstRegister) (field w secondRegister) (signedField w offsetM)
 
 -- 6 and zeros where it has no format
 abbrev pub unpacks : ℕ → Formats Numbers

@@ -1,10 +1,15 @@
 // Words taken apart into numbers, and put together from them.
 use crate::numbers::Found;
 use crate::numbers::Numbers;
+use isa::PREFIX_C;
+use isa::PREFIX_I;
+use isa::PREFIX_J;
+use isa::PREFIX_M;
+use isa::PREFIX_MOVEI;
+use isa::PREFIX_R;
 use isa::Reading;
-ghost use Prim.Native.Nat.{_+_, _*_, _^_, _<_, _≤_};
+ghost use Prim.Native.Nat.{_+_, _*_, _<_, _≤_};
 ghost use mathlib.Core.Path.{_≡_};
-ghost use Rattle.isa.specs.Layout.{bits, signed};
 ghost use Rattle.fields.specs.Find.{found, wordFor};
 ghost use Rattle.fields.specs.Numbers.{numbers, sameNumbers, numbersOf, wordOf};
 
@@ -21,22 +26,6 @@ fn numbers_as(format: u32, opcode: u32, flags: u32, first: u32, second: u32, thi
     }
 }
 
-// The signed field in bits 11-3: its sign bit says whether all bits above are 1.
-fn short_signed(w: u32) -> u32
-    ensures { λ r. ⌜ r ≡ signed (2 ^ 8) (bits w 11 3) ⌝ }
-{
-    let field = w / 8 % 512;
-    field + field / 256 * 0xFFFFFE00
-}
-
-// The signed field in bits 17-0.
-fn long_signed(w: u32) -> u32
-    ensures { λ r. ⌜ r ≡ signed (2 ^ 17) (bits w 17 0) ⌝ }
-{
-    let field = w % 0x40000;
-    field + field / 0x20000 * 0xFFFC0000
-}
-
 // The numbers of a word, by the format that its upper bits say.
 pub fn unpack(w: u32) -> Numbers
     ensures { λ r. ⌜ r ≡ numbersOf w ⌝ }
@@ -44,30 +33,31 @@ pub fn unpack(w: u32) -> Numbers
     let opcode = w / 0x1000000;
     let first = w / 0x40000 % 64;
     let second = w / 0x1000 % 64;
-    let short = short_signed(w);
-    let long = long_signed(w);
-    if w / 0x40000000 == 0b00 {
+    let short = isa::short_signed(w);
+    let long = isa::long_signed(w);
+    if w / 0x40000000 == PREFIX_R {
         return numbers_as(0, opcode % 64, w / 2 % 8, first, second, w / 0x40 % 64);
     }
-    if w / 0x20000000 == 0b010 {
+    if w / 0x20000000 == PREFIX_I {
         return numbers_as(1, opcode % 32, w / 2 % 4, first, second, short);
     }
-    if w / 0x8000000 == 0b01100 {
+    if w / 0x8000000 == PREFIX_MOVEI {
         return numbers_as(2, opcode % 8, w / 2 % 2, first, w / 4 % 65536, 0);
     }
-    if w / 0x8000000 == 0b01110 {
+    if w / 0x8000000 == PREFIX_J {
         return numbers_as(3, opcode % 8, 0, first, long, 0);
     }
-    if w / 0x8000000 == 0b01111 {
+    if w / 0x8000000 == PREFIX_C {
         return numbers_as(4, opcode % 8, 0, first, second, 0);
     }
-    if w / 0x40000000 == 0b10 {
+    if w / 0x40000000 == PREFIX_M {
         return numbers_as(5, opcode % 64, 0, first, second, short);
     }
     numbers_as(6, 0, 0, 0, 0, 0)
 }
 
-// A word from its format's bits, its opcode, its first field and the rest.
+// A word from its format's bits, its opcode, its first field and the rest. isa's own packing asks for room, which an open call may not; here
+// each number is reduced first.
 fn place(format: u32, opcode: u32, first: u32, rest: u32) -> u32
     requires { ⌜ (format + opcode * 0x1000000 + 0x1000000 ≤ 0x100000000) × (first < 64) × (rest < 0x40000) ⌝ }
     ensures { λ r. ⌜ r ≡ format + opcode * 0x1000000 + first * 0x40000 + rest ⌝ }
@@ -89,7 +79,7 @@ fn pack(n: Numbers) -> u32
     let short = third % 512 * 8;
     if format == 0 {
         return place(
-            0,
+            PREFIX_R * 0x40000000,
             opcode % 64,
             first,
             register + third % 64 * 0x40 + flags % 8 * 2,
@@ -97,7 +87,7 @@ fn pack(n: Numbers) -> u32
     }
     if format == 1 {
         return place(
-            0x40000000,
+            PREFIX_I * 0x20000000,
             opcode % 32,
             first,
             register + short + flags % 4 * 2,
@@ -105,20 +95,20 @@ fn pack(n: Numbers) -> u32
     }
     if format == 2 {
         return place(
-            0x60000000,
+            PREFIX_MOVEI * 0x8000000,
             opcode % 8,
             first,
             second % 65536 * 4 + flags % 2 * 2,
         );
     }
     if format == 3 {
-        return place(0x70000000, opcode % 8, first, second % 0x40000);
+        return place(PREFIX_J * 0x8000000, opcode % 8, first, second % 0x40000);
     }
     if format == 4 {
-        return place(0x78000000, opcode % 8, first, register);
+        return place(PREFIX_C * 0x8000000, opcode % 8, first, register);
     }
     if format == 5 {
-        return place(0x80000000, opcode % 64, first, register + short);
+        return place(PREFIX_M * 0x40000000, opcode % 64, first, register + short);
     }
     0
 }

@@ -13,7 +13,8 @@ use Rattle.machine.specs.State.{State}
 use Rattle.machine.proofs.Claims.{tested, enabled, chooses}
 use Rattle.machine.proofs.Tests.{never}
 use Rattle.machine.specs.Claims.{FirstAfterLast}
-use Rattle.machine.specs.Machine.{bit, countThreads}
+use Rattle.bits.specs.Bit.{bit}
+use Rattle.machine.specs.Machine.{countThreads}
 use Rattle.machine.specs.Scheduler.{runs, after, choice}
 use Rattle.machine.specs.Status.{limits}
 use Rattle.machine.specs.WellFormed.{wellFormed}

@@ -6,7 +6,8 @@ use mathlib.Core.Path.{_≡_}
 use lib.Dec.{eqb}
 use lib.ListN.{length, take}
 use Rattle.machine.specs.State.{State}
-use Rattle.machine.specs.Machine.{bit, countThreads}
+use Rattle.bits.specs.Bit.{isSet}
+use Rattle.machine.specs.Machine.{countThreads}
 use Rattle.machine.specs.Scheduler.{runs}
 use Rattle.machine.specs.WellFormed.{wellFormed}
 pub use Rattle.interpreter.specs.Choosing.{Issue}
@@ -58,7 +59,7 @@ made t (i ∷ is) = made t is + cond (eqb (i .thread) t) 1 0
 
 -- "E is the number of enabled bits"
 abbrev pub isEnabled : ℕ → ℕ → Bool
-isEnabled mask t = eqb (bit mask t) 1
+isEnabled mask t = isSet mask t
 
 abbrev pub enabledThreads : Machine → ℕ
 enabledThreads m = countThreads (isEnabled (m .enabled))

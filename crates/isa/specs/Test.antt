@@ -1,8 +1,9 @@
 -- Tests: several taken together, and a number looked for in a list.
-use Prim.Native.Nat.{ℕ, _+_, _/_, _%_, _^_}
+use Prim.Native.Nat.{ℕ, _+_, _%_, _^_}
 use mathlib.Core.Bool.{Bool, true, false, _&&_, _||_}
 use mathlib.Core.List.{List, [], _∷_}
 use lib.Dec.{eqb, ltb}
+use Rattle.bits.specs.Bit.{isSet}
 
 unfoldable pub allFrom : Bool → List Bool → Bool
 allFrom a [] = a
@@ -29,4 +30,4 @@ setOf [] = 0
 setOf (x ∷ xs) = 2 ^ x + setOf xs
 
 abbrev pub inSet : ℕ → ℕ → Bool
-inSet set f = ltb f 8 && eqb (set / 2 ^ (f % 8) % 2) 1
+inSet set f = ltb f 8 && isSet set (f % 8)

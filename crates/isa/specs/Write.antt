@@ -1,9 +1,9 @@
 -- The word of an instruction (document 01, "The words").
-use Prim.Native.Nat.{ℕ, _^_}
+use Prim.Native.Nat.{ℕ}
 use mathlib.Core.Bool.{Bool, true, false, _&&_}
 use mathlib.Core.List.{List, [], _∷_}
 use Rattle.answer.specs.Answer.{Answer, given, refused, no-word}
-use Rattle.isa.specs.Layout.{Part, pack, room, layoutR, layoutI, layoutMovei, layoutJ, layoutC, layoutM, prefixR, prefixI, prefixMovei, prefixJ, prefixC, prefixM, truncated, fits-signed}
+use Rattle.isa.specs.Layout.{Part, pack, room, layoutR, layoutI, layoutMovei, layoutJ, layoutC, layoutM, prefixR, prefixI, prefixMovei, prefixJ, prefixC, prefixM, truncated, fits-signed, signBit, immediateI, offsetJ, offsetM}
 use Rattle.isa.specs.Rule.{allowsR, allowsI, allowsMovei, allowsJ, allowsC, allowsM}
 use Rattle.isa.specs.Table.{rowR, rowI, rowMovei, rowJ, rowC, rowM}
 use Rattle.isa.specs.Test.{all}
@@ -25,24 +25,24 @@ writeR op flags d a b = encoded (allowsR op flags d b) layoutR (prefixR ∷ rowR
 
 unfoldable pub writeI : Operation → ℕ → ℕ → ℕ → ℕ → Answer ℕ
 writeI op flags d a immediate =
-    encoded (allowsI op flags d && fits-signed (2 ^ 8) immediate) layoutI
-    (prefixI ∷ rowI op .opcode ∷ d ∷ a ∷ truncated (2 ^ 8) immediate ∷ flags ∷ 0 ∷ [])
+    encoded (allowsI op flags d && fits-signed (signBit immediateI) immediate) layoutI
+    (prefixI ∷ rowI op .opcode ∷ d ∷ a ∷ truncated (signBit immediateI) immediate ∷ flags ∷ 0 ∷ [])
 
 unfoldable pub writeMovei : MoveiOp → ℕ → ℕ → ℕ → Answer ℕ
 writeMovei op flag d immediate = encoded (allowsMovei flag d) layoutMovei (prefixMovei ∷ rowMovei op .opcode ∷ d ∷ immediate ∷ flag ∷ 0 ∷ [])
 
 unfoldable pub writeJ : JumpOp → ℕ → ℕ → Answer ℕ
 writeJ op register offset =
-    encoded (allowsJ op register offset && fits-signed (2 ^ 17) offset) layoutJ
-    (prefixJ ∷ rowJ op .opcode ∷ register ∷ truncated (2 ^ 17) offset ∷ [])
+    encoded (allowsJ op register offset && fits-signed (signBit offsetJ) offset) layoutJ
+    (prefixJ ∷ rowJ op .opcode ∷ register ∷ truncated (signBit offsetJ) offset ∷ [])
 
 unfoldable pub writeC : ControlOp → ℕ → ℕ → Answer ℕ
 writeC op first second = encoded (allowsC op first second) layoutC (prefixC ∷ rowC op .opcode ∷ first ∷ second ∷ 0 ∷ [])
 
 unfoldable pub writeM : MemoryOp → ℕ → ℕ → ℕ → Answer ℕ
 writeM op register base offset =
-    encoded (allowsM op register && fits-signed (2 ^ 8) offset) layoutM
-    (prefixM ∷ rowM op .opcode ∷ register ∷ base ∷ truncated (2 ^ 8) offset ∷ 0 ∷ 0 ∷ [])
+    encoded (allowsM op register && fits-signed (signBit offsetM) offset) layoutM
+    (prefixM ∷ rowM op .opcode ∷ register ∷ base ∷ truncated (signBit offsetM) offset ∷ 0 ∷ 0 ∷ [])
 
 -- what an instruction is written as
 unfoldable pub write : Instruction → Answer ℕ

@@ -7,6 +7,12 @@ use crate::instruction::MemoryOp;
 use crate::instruction::MoveiOp;
 use crate::instruction::Operation;
 use crate::instruction::Reading;
+use crate::layout::PREFIX_C;
+use crate::layout::PREFIX_I;
+use crate::layout::PREFIX_J;
+use crate::layout::PREFIX_M;
+use crate::layout::PREFIX_MOVEI;
+use crate::layout::PREFIX_R;
 use crate::opcode;
 use crate::opcode::ControlOpcode;
 use crate::opcode::JumpOpcode;
@@ -43,7 +49,7 @@ fn as_i(w: u32, op: Operation) -> Reading
     let flags = w / 2 % 4;
     let d = w / 0x40000 % 64;
     let a = w / 0x1000 % 64;
-    let immediate = field::sign_extend(0x100, w / 8 % 512);
+    let immediate = field::short_signed(w);
     if (w % 2 == 0) & rule::i_allows(op, flags, d) {
         Reading::Defined(Instruction::I {
             op,
@@ -79,7 +85,7 @@ fn as_j(w: u32, op: JumpOp) -> Reading
     ensures { λ r. ⌜ reading r ≡ asJ w op ⌝ }
 {
     let register = w / 0x40000 % 64;
-    let offset = field::sign_extend(0x20000, w % 0x40000);
+    let offset = field::long_signed(w);
     if rule::j_allows(op, register, offset) {
         Reading::Defined(Instruction::J {
             op,
@@ -108,7 +114,7 @@ fn as_m(w: u32, op: MemoryOp) -> Reading
 {
     let register = w / 0x40000 % 64;
     let base = w / 0x1000 % 64;
-    let offset = field::sign_extend(0x100, w / 8 % 512);
+    let offset = field::short_signed(w);
     if w / 2 % 4 != 0 {
         return Reading::NotFitted;
     }
@@ -189,22 +195,22 @@ fn read_m(w: u32) -> Reading
 pub fn read_word(w: u32) -> Reading
     ensures { λ r. ⌜ reading r ≡ read w ⌝ }
 {
-    if w / 0x40000000 == 0b00 {
+    if w / 0x40000000 == PREFIX_R {
         return read_r(w);
     }
-    if w / 0x40000000 == 0b10 {
+    if w / 0x40000000 == PREFIX_M {
         return read_m(w);
     }
-    if w / 0x20000000 == 0b010 {
+    if w / 0x20000000 == PREFIX_I {
         return read_i(w);
     }
-    if w / 0x8000000 == 0b01100 {
+    if w / 0x8000000 == PREFIX_MOVEI {
         return read_movei(w);
     }
-    if w / 0x8000000 == 0b01110 {
+    if w / 0x8000000 == PREFIX_J {
         return read_j(w);
     }
-    if w / 0x8000000 == 0b01111 {
+    if w / 0x8000000 == PREFIX_C {
         return read_c(w);
     }
     Reading::Undefined

@@ -1,5 +1,6 @@
-// Instructions written into words. The tests of the opcode stand as the definition has them, since packing asks for room, and decide nothing:
-// every opcode of R, MOVEI, J, C and M has room, and an opcode of R that has none in a word of I has no flags there either.
+// Instructions written into words. The tests of opcodes and of R's and I's flags stand as the definition has them, since packing asks for
+// room, and decide nothing: every opcode of R, MOVEI, J, C and M has room, an opcode of R that has none in a word of I has no flags there
+// either, and flags that an operation allows have room.
 use crate::field;
 use crate::instruction::ControlOp;
 use crate::instruction::Instruction;

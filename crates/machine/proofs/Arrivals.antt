@@ -8,9 +8,10 @@ use native.Mathlib.Omega.{arith}
 use borrow.Author.Tests.{le-leb, eq-eqb, eqb-false}
 use lib.Dec.{eqb}
 use lib.ListN.{length, length-map, List·getD-map}
+use Rattle.bits.specs.Bit.{bit}
 use Rattle.machine.specs.Barrier.{released, release, releaseIfMet, arrive, refusesMeeting, meet}
 use Rattle.machine.specs.Claims.{WellFormed, Sound, Meets}
-use Rattle.machine.specs.Machine.{zeroThread, statusAt, bit, withStatus, withStatusAt, trap}
+use Rattle.machine.specs.Machine.{zeroThread, statusAt, withStatus, withStatusAt, trap}
 use Rattle.machine.specs.Status.{limits, isIdle, isRunning, isWaiting, waitsAt, carriesInRange}
 use Rattle.machine.specs.WellFormed.{waiting, disputed}
 use Rattle.machine.specs.Scheduler.{runs}

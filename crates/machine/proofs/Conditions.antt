@@ -8,8 +8,9 @@ use native.Mathlib.Omega.{arith}
 use borrow.Author.Tests.{ltb-true, lt-ltb, leb-true, le-leb, eqb-true, eq-eqb, ne-eqb, not-true, not-false}
 use lib.Dec.{leb, ltb, eqb}
 use lib.ListN.{length, List·getD-eq-default}
+use Rattle.bits.specs.Bit.{bit}
 use Rattle.machine.specs.Claims.{WellFormedWithin, Tested}
-use Rattle.machine.specs.Machine.{allThreads, zeroThread, statusAt, bit}
+use Rattle.machine.specs.Machine.{allThreads, zeroThread, statusAt}
 use Rattle.machine.specs.Status.{isIdle, waitsOtherwise, carriesInRange, ifWaiting}
 use Rattle.machine.specs.WellFormed.{waiting, disputed, numbersInRange, idleIfDisabled, countAgreed, fewerWait, wellFormedWithin}
 use Rattle.machine.specs.Types.{Limits, Status, Idle, Running, Ended, Trapped, Waiting, Machine}

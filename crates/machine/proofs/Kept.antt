@@ -8,8 +8,9 @@ use native.Mathlib.Omega.{arith}
 use borrow.Author.Tests.{le-leb, eqb-true, eq-eqb}
 use lib.ListN.{length, getD, set, length-set, List·getD-eq-default}
 use lib.Seq.{getD-set-same, getD-set-other}
+use Rattle.bits.specs.Bit.{bit}
 use Rattle.machine.specs.Claims.{WellFormed, Sound, Traps, Ends, Issued, RunningEnabled}
-use Rattle.machine.specs.Machine.{zeroThread, statusAt, bit, withStatus, withStatusAt, trap, end}
+use Rattle.machine.specs.Machine.{zeroThread, statusAt, withStatus, withStatusAt, trap, end}
 use Rattle.machine.specs.Status.{limits, isIdle, isRunning, isWaiting, waitsAt, carriesInRange}
 use Rattle.machine.specs.WellFormed.{waiting}
 use Rattle.machine.specs.Scheduler.{runs, withLast}

@@ -8,8 +8,9 @@ use native.Mathlib.Omega.{arith}
 use borrow.Author.Tests.{eqb-true, eq-eqb}
 use lib.Dec.{eqb}
 use lib.ListN.{length, getD}
+use Rattle.bits.specs.Bit.{bit}
 use Rattle.machine.specs.Claims.{Started}
-use Rattle.machine.specs.Machine.{zeroThread, statusAt, bit, withStatus, startStatus, start}
+use Rattle.machine.specs.Machine.{zeroThread, statusAt, withStatus, startStatus, start}
 use Rattle.machine.specs.Status.{limits, isIdle, isRunning, isWaiting}
 use Rattle.machine.specs.Types.{Status, Idle, Running, Trapped, Waiting, Thread}
 use Rattle.machine.proofs.Conditions.{is-thread, tested}

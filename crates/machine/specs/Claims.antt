@@ -4,8 +4,9 @@ use mathlib.Core.Bool.{true, false}
 use mathlib.Core.Logic.{_↔_}
 use mathlib.Core.Path.{_≡_}
 use lib.ListN.{length}
+use Rattle.bits.specs.Bit.{bit}
 use Rattle.machine.specs.Barrier.{meet}
-use Rattle.machine.specs.Machine.{statusAt, bit, trap, end, start}
+use Rattle.machine.specs.Machine.{statusAt, trap, end, start}
 use Rattle.machine.specs.Scheduler.{runs, after, choice, withLast, afterChoice, choose}
 use Rattle.machine.specs.Status.{limits}
 use Rattle.machine.specs.Types.{Limits, Idle, Trapped, Waiting, Machine, Choice, Chosen, NoneRunning, Turn}

@@ -1,9 +1,10 @@
 -- The machine record: its eight threads, what it begins as, and what changes in it (document 01, "What a machine holds").
-use Prim.Native.Nat.{ℕ, _/_, _%_, _^_}
+use Prim.Native.Nat.{ℕ}
 use mathlib.Core.Bool.{Bool, cond}
 use mathlib.Core.List.{List, [], _∷_, map}
 use lib.Dec.{eqb}
 use lib.ListN.{getD, set, replicate}
+use Rattle.bits.specs.Bit.{bit}
 use Rattle.machine.specs.Search.{all, any, count}
 use Rattle.machine.specs.Types.{Status, Idle, Running, Ended, Trapped, Thread, Machine}
 
@@ -27,10 +28,6 @@ zeroThread = record { status = Idle }
 -- the status of a thread; idle where there is no such thread
 abbrev pub statusAt : Machine → ℕ → Status
 statusAt m t = getD (m .threads) t zeroThread .status
-
--- a thread's bit in a mask
-abbrev pub bit : ℕ → ℕ → ℕ
-bit mask t = mask / 2 ^ t % 2
 
 -- an entry with another status
 abbrev pub withStatus : Thread → Status → Thread

@@ -3,7 +3,8 @@ use Prim.Native.Nat.{ℕ}
 use mathlib.Core.Bool.{Bool, _&&_, not, Bool·beq}
 use lib.Dec.{leb, ltb, eqb}
 use lib.ListN.{length}
-use Rattle.machine.specs.Machine.{allThreads, anyThread, countThreads, statusAt, bit}
+use Rattle.bits.specs.Bit.{bit}
+use Rattle.machine.specs.Machine.{allThreads, anyThread, countThreads, statusAt}
 use Rattle.machine.specs.Status.{limits, isIdle, waitsAt, waitsOtherwise, ifWaiting, carriesInRange}
 use Rattle.machine.specs.Types.{Limits, Machine}
 

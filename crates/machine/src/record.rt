@@ -3,7 +3,8 @@ ghost use Prim.Native.Nat.{_<_};
 ghost use mathlib.Core.Bool.{cond};
 ghost use mathlib.Core.Path.{_≡_};
 ghost use lib.Dec.{eqb};
-ghost use Rattle.machine.specs.Machine.{statusAt, withStatusAt, bit, zeroed, startStatus, start, trap, end};
+ghost use Rattle.bits.specs.Bit.{bit};
+ghost use Rattle.machine.specs.Machine.{statusAt, withStatusAt, zeroed, startStatus, start, trap, end};
 use crate::status::Status;
 use crate::status::Thread;
 

@@ -3,9 +3,9 @@ use Prim.Native.Nat.{ℕ, zero, suc, _%_}
 use mathlib.Core.Bool.{Bool, cond}
 use mathlib.Core.List.{List, [], _∷_, _++_}
 use lib.ListN.{getD}
+use Rattle.bits.specs.Bit.{isSet}
 use Rattle.isa.specs.declared.instruction.BinaryOp.{BinaryOp}
 use Rattle.isa.specs.declared.instruction.UnaryOp.{UnaryOp}
-use Rattle.alu.specs.Word.{isSet}
 use Rattle.alu.specs.Binary.{binary}
 use Rattle.alu.specs.Unary.{unary}
 

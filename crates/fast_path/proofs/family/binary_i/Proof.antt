@@ -11,7 +11,7 @@ returns-2 c memory words enabled pc =
     let f = test .before .before .before in
     let a = f .args in
     let low = sym (test .before .flags-i .ensures) ∙ test .if1 .left in
-    rw (c .binary .ensures, c .before .immediate .ensures, c .before .before .operand-a .ensures)
+    rw (c .binary .ensures, c .before .short-signed .ensures, c .before .before .operand-a .ensures)
     (binary-I (a .t) (a .room .now) (a .w) (a .op) (f .pre .1) low memory words enabled pc)
 
 pub binary-i-spec : {M : Type 1} → statement M

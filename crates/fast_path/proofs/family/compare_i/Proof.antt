@@ -14,7 +14,7 @@ returns-2 c memory words enabled pc =
     rw (
       c .number .ensures,
       c .before .compare .ensures,
-      c .before .before .immediate .ensures,
+      c .before .before .short-signed .ensures,
       c .before .before .before .operand-a .ensures,
     )
     (compare-I (a .t) (a .room .now) (a .w) (a .op) (f .pre .1) low memory words enabled pc)

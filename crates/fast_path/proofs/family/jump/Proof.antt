@@ -13,7 +13,7 @@ returns c memory words enabled pc =
     let read = told .before .before in
     let f = read .before .before .before .before in
     let a = f .args in
-    rw (read .offset .ensures)
+    rw (read .long-signed .ensures)
     (jumps (a .t) (a .room .now) (a .w) Jmp (rw (told .enum-told .given .1) at (f .pre .1))
     (eq-eqb _ 0 (sym (read .before .before .register .ensures) ∙ c .if1 .taken)) memory words enabled pc)
 
@@ -23,7 +23,7 @@ returns-5 c memory words enabled pc =
     let read = told .before .before in
     let f = read .before .before .before .before in
     let a = f .args in
-    rw (read .offset .ensures)
+    rw (read .long-signed .ensures)
     (jumps (a .t) (a .room .now) (a .w) Beqz (rw (told .enum-told4 .given .1) at (f .pre .1)) refl memory words enabled pc
     ∙ rw (← read .before .operand-d .ensures, eq-eqb _ 0 (c .if2 .taken)))
 
@@ -42,7 +42,7 @@ returns-7 c memory words enabled pc =
     let read = told .before .before in
     let f = read .before .before .before .before in
     let a = f .args in
-    rw (read .offset .ensures)
+    rw (read .long-signed .ensures)
     (jumps (a .t) (a .room .now) (a .w) Bnez (rw (told .enum-told5 .given .1) at (f .pre .1)) refl memory words enabled pc
     ∙ rw (← read .before .operand-d .ensures, ne-eqb _ 0 (c .if3 .taken)))
 

@@ -13,7 +13,7 @@ returns-2 c words enabled pc =
     let f = test .before .before .before .before in
     let a = f .args in
     loads (a .t) (a .room .now) (a .w) (a .op) (f .pre .1) (sym (test .before .flags-i .ensures) ∙ test .if1 .left) (a .memory .now) _
-    (rw (← called .before .before .operand-a .ensures, ← called .before .immediate .ensures)
+    (rw (← called .before .before .operand-a .ensures, ← called .before .short-signed .ensures)
     (sym (called .load .ensures) ∙ ap ofLoaded (c .before .x .given .1)))
     words enabled pc
 

@@ -1,6 +1,6 @@
 -- `sign_extend` meets its contract, below the half and above it.
 use borrow.Author.Needs.{needs}
-use borrow.Author.Tests.{lt-ltb, le-ltb}
+use borrow.Author.Tests.{le-leb, lt-leb}
 use native.Mathlib.Omega.{arith}
 use Rattle.isa.proofs.field.sign_extend.Statement.{statement}
 use Rattle.isa.proofs.field.sign_extend.Tie as tie
@@ -15,5 +15,5 @@ sign-extend-spec =
     (λ c. search needs)
     (λ c. search needs)
     (λ c. search needs)
-    (λ c. rw (lt-ltb _ _ (c .if1 .taken)))
-    (λ c. rw (le-ltb _ _ (c .if1 .left)) (omega arith)))
+    (λ c. rw (lt-leb _ _ (c .if1 .taken)))
+    (λ c. rw (le-leb _ _ (c .if1 .left)) (omega arith)))

@@ -13,5 +13,5 @@ as-i-spec =
     (tie.spec
     (λ c κs. search needs)
     (λ c κs. search needs)
-    (λ c. rw (div-one, ← c .before .before .sign-extend .ensures, ← c .before .i-allows .ensures, c .if1 .taken))
+    (λ c. rw (div-one, ← c .before .before .short-signed .ensures, ← c .before .i-allows .ensures, c .if1 .taken))
     (λ c. rw (div-one, ← c .before .i-allows .ensures, c .if1 .left)))

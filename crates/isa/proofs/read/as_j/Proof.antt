@@ -1,6 +1,5 @@
 -- `as_j` meets its contract: by the rule.
 use borrow.Author.Needs.{needs}
-use native.Mathlib.Nat.{div-one}
 use Rattle.isa.proofs.read.as_j.Statement.{statement}
 use Rattle.isa.proofs.read.as_j.Tie as tie
 use Rattle.isa.specs.Read.{asJ, accepted}
@@ -12,5 +11,5 @@ as-j-spec =
     (tie.spec
     (λ c κs. search needs)
     (λ c κs. search needs)
-    (λ c. rw (div-one, ← c .before .before .sign-extend .ensures, ← c .before .j-allows .ensures, c .if1 .taken))
-    (λ c. rw (div-one, ← c .before .before .sign-extend .ensures, ← c .before .j-allows .ensures, c .if1 .left)))
+    (λ c. rw (← c .before .before .long-signed .ensures, ← c .before .j-allows .ensures, c .if1 .taken))
+    (λ c. rw (← c .before .before .long-signed .ensures, ← c .before .j-allows .ensures, c .if1 .left)))

@@ -15,5 +15,5 @@ as-m-spec =
     (λ c κs. search needs)
     (λ c. rw (ne-eqb _ 0 (c .if1 .taken)))
     (λ c κs. search needs)
-    (λ c. rw (eq-eqb _ 0 (c .before .before .if1 .left), div-one, ← c .before .before .before .sign-extend .ensures, ← c .before .m-allows .ensures, c .if2 .taken))
+    (λ c. rw (eq-eqb _ 0 (c .before .before .if1 .left), div-one, ← c .before .before .before .short-signed .ensures, ← c .before .m-allows .ensures, c .if2 .taken))
     (λ c. rw (eq-eqb _ 0 (c .before .before .if1 .left), div-one, ← c .before .m-allows .ensures, c .if2 .left)))

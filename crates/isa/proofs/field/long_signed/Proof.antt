@@ -1,13 +1,13 @@
--- `field::offset` meets its contract.
+-- `long_signed` meets its contract.
 use borrow.Author.Needs.{needs}
 use native.Mathlib.Nat.{div-one}
 use native.Mathlib.Omega.{arith}
-use Rattle.fast_path.proofs.Words.{signed-field}
-use Rattle.fast_path.proofs.field.offset.Statement.{statement}
-use Rattle.fast_path.proofs.field.offset.Tie as tie
+use Rattle.isa.proofs.Signed.{signed-field}
+use Rattle.isa.proofs.field.long_signed.Statement.{statement}
+use Rattle.isa.proofs.field.long_signed.Tie as tie
 
-pub offset-spec : {M : Type 1} → statement M
-offset-spec =
+pub long-signed-spec : {M : Type 1} → statement M
+long-signed-spec =
     tie.close
     (tie.spec
     (λ c. search needs)

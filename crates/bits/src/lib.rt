@@ -1,0 +1,1 @@
+// Bits of numbers: definitions alone, which crates that know nothing of each other cite.
