@@ -11,7 +11,7 @@ use lib.IntN.{pos, negsuc, negℤ, _*ℤ_}
 use lib.Pow.{pow-pos, pow-mono, pow-add, shr-le}
 use lib.Signed.{ltZ, leZ, shrZ}
 use borrow.Author.Tests.{leb-true, leb-false, le-leb, lt-leb, lt-ltb}
-use Rattle.isa.specs.Layout.{extended}
+use Rattle.word_layout.specs.Layout.{extended}
 use Rattle.alu.specs.Word.{rank, value}
 use Rattle.alu.specs.Binary.{distance}
 use Rattle.alu.specs.Claims.{MulhiIsSigned, AshrIsSigned, Sext8IsSigned, Sext16IsSigned, SignedOrder}

@@ -3,7 +3,7 @@ use Prim.Native.Nat.{ℕ, _+_, _-_, _*_, _/_, _%_, _^_}
 use lib.Bits.{bitAnd, bitOr, bitXor}
 use Rattle.isa.specs.declared.instruction.BinaryOp.{BinaryOp}
 use Rattle.isa.specs.declared.instruction.BinaryOp.the-variants.{Or, And, Xor, Add, Sub, Mullo, Mulhi, Mulhu, Ashr, Shr, Shl}
-use Rattle.isa.specs.Layout.{extended}
+use Rattle.word_layout.specs.Layout.{extended}
 
 -- "Shifts use the low five bits of b."
 abbrev pub distance : ℕ → ℕ

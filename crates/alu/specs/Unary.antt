@@ -4,7 +4,7 @@ use mathlib.Core.Bool.{cond}
 use Rattle.bits.specs.Bit.{isSet}
 use Rattle.isa.specs.declared.instruction.UnaryOp.{UnaryOp}
 use Rattle.isa.specs.declared.instruction.UnaryOp.the-variants.{Clz, Ctz, Move, Sext8, Sext16}
-use Rattle.isa.specs.Layout.{extended}
+use Rattle.word_layout.specs.Layout.{extended}
 
 -- the zero bits above the highest one bit of the k lowest bits, counted from the top; all k where no bit is 1
 unfoldable pub zerosAbove : ℕ → ℕ → ℕ

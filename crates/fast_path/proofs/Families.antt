@@ -9,7 +9,7 @@ use Rattle.alu.specs.Binary.{binary}
 use Rattle.alu.specs.Compare.{compare}
 use Rattle.alu.specs.Unary.{unary}
 use Rattle.isa.proofs.Both.{and-both}
-use Rattle.isa.specs.Layout.{bits, signed}
+use Rattle.word_layout.specs.Layout.{bits, signed}
 use Rattle.isa.specs.Rule.{flagsUnary, allowsJ, allowsM}
 use Rattle.isa.specs.Test.{isIn}
 use Rattle.isa.specs.Table.{rowR, rowMovei, rowJ, rowM}

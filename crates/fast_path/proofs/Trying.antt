@@ -10,7 +10,7 @@ use Rattle.execution.specs.Effect.{Step, step, beside}
 use Rattle.execution.specs.Issue.{fits, perform, performSetsStatus, issue, issueSetsStatus}
 use Rattle.execution.specs.Jump.{inProgram}
 use Rattle.execution.specs.Registers.{programCounter}
-use Rattle.isa.specs.Layout.{bits}
+use Rattle.word_layout.specs.Layout.{bits}
 use Rattle.fast_path.specs.Action.{stepOf, Executes, Acts, Goes, Tried, TriedWord, TriedIssue}
 use Rattle.fast_path.specs.Types.{Action, Stays}
 

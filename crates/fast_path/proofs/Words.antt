@@ -9,7 +9,7 @@ use Rattle.answer.specs.Answer.{given}
 use Rattle.isa.proofs.Answers.{accept, accept-one}
 use Rattle.isa.proofs.Formats.{is-R, is-I, is-Movei, is-J, is-M}
 use Rattle.isa.proofs.Tables.{finds-R, finds-Movei, finds-J, finds-M}
-use Rattle.isa.specs.Layout.{bits, signed}
+use Rattle.word_layout.specs.Layout.{bits, signed}
 use Rattle.isa.specs.Read.{reads, read, readR, asR, readI, asI, readMovei, asMovei, readJ, asJ, readM, asM, listed}
 use Rattle.isa.specs.Rule.{allowsR, allowsI, allowsJ, allowsM}
 use Rattle.isa.specs.Table.{rowR, rowMovei, rowJ, rowM}

@@ -8,7 +8,7 @@ use Rattle.execution.specs.Effect.{Step, step, executed, beside, next}
 use Rattle.execution.specs.Issue.{executeWord, issue, issueSetsStatus}
 use Rattle.execution.specs.Jump.{jumpBy}
 use Rattle.execution.specs.Registers.{withScalar}
-use Rattle.isa.specs.Layout.{field, firstRegister}
+use Rattle.word_layout.specs.Layout.{field, firstRegister}
 use Rattle.machine.specs.State.{state}
 use Rattle.fast_path.specs.Types.{Action, Write, Next, Jump, Defer, Machine, Stays}
 

@@ -38,7 +38,7 @@ pub fn binary_i(room: &[u32], t: usize, w: u32, op: BinaryOp) -> Action
         return Action::Defer;
     }
     let x = registers::operand_a(room, t, w);
-    let y = isa::short_signed(w);
+    let y = word_layout::short_signed(w);
     Action::Write(alu::binary(op, x, y))
 }
 
@@ -80,7 +80,7 @@ pub fn compare_i(room: &[u32], t: usize, w: u32, op: CompareOp) -> Action
         return Action::Defer;
     }
     let x = registers::operand_a(room, t, w);
-    let y = isa::short_signed(w);
+    let y = word_layout::short_signed(w);
     Action::Write(number(alu::compare(op, x, y)))
 }
 
@@ -113,7 +113,7 @@ pub fn jump(room: &[u32], t: usize, w: u32, op: JumpOp) -> Action
 {
     let register = registers::register(w);
     let x = registers::operand_d(room, t, w);
-    let offset = isa::long_signed(w);
+    let offset = word_layout::long_signed(w);
     match op {
         JumpOp::Jmp => if register == 0 {
             Action::Jump(offset)
@@ -144,7 +144,7 @@ pub fn load(room: &[u32], memory: &[u8], t: usize, w: u32, op: LoadOp) -> Action
         return Action::Defer;
     }
     let base = registers::operand_a(room, t, w);
-    let offset = isa::short_signed(w);
+    let offset = word_layout::short_signed(w);
     match memory::load(op, memory, base, offset) {
         Loaded::Value(x) => Action::Write(x),
         Loaded::Misaligned => Action::Defer,

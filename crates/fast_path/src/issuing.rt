@@ -79,7 +79,7 @@ fn store(room: &mut [u32], memory: &mut [u8], t: usize, pc: u32, w: u32, op: Sto
     }
     let base = registers::operand_a(room, t, w);
     let x = registers::operand_d(room, t, w);
-    let offset = isa::short_signed(w);
+    let offset = word_layout::short_signed(w);
     match memory::store(op, memory, base, offset, x) {
         Access::Done => {
             registers::advance(room, t, pc);

@@ -3,7 +3,7 @@ ghost use mathlib.Core.Path.{_≡_};
 ghost use Prim.Native.Nat.{_+_, _<_};
 ghost use Rattle.execution.specs.Effect.{advanced};
 ghost use Rattle.execution.specs.Registers.{scalar, withScalar, InRoom};
-ghost use Rattle.isa.specs.Layout.{field, firstRegister, secondRegister, thirdRegister};
+ghost use Rattle.word_layout.specs.Layout.{field, firstRegister, secondRegister, thirdRegister};
 
 pub const PROGRAM_COUNTER: u32 = 63;
 

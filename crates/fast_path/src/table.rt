@@ -2,7 +2,7 @@
 ghost use mathlib.Core.Path.{_≡_};
 ghost use Prim.Native.Nat.{_/_, _^_, _<_};
 ghost use Rattle.execution.specs.Registers.{InRoom};
-ghost use Rattle.isa.specs.Layout.{field, firstRegister};
+ghost use Rattle.word_layout.specs.Layout.{field, firstRegister};
 ghost use Rattle.fast_path.specs.Action.{ActsOn, ActsAnywhere};
 use crate::action::Action;
 use crate::family::binary_i;

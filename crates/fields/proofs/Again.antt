@@ -15,10 +15,10 @@ use Rattle.isa.proofs.Both.{and-right, each}
 use Rattle.isa.proofs.Formats.{is-R, is-I, is-Movei, is-J, is-C, is-M}
 use Rattle.isa.proofs.Parts.{covers, pack-unpack}
 use Rattle.isa.proofs.RoundTrip.{exact}
-use Rattle.isa.proofs.Signed.{signed-truncated}
+use Rattle.word_layout.proofs.Signed.{signed-truncated}
 use Rattle.isa.proofs.Tables.{finds-R, finds-Movei, finds-J, finds-C, finds-M}
 use Rattle.isa.specs.Claims.{Exact}
-use Rattle.isa.specs.Layout.{Part, bits, width, unpack, truncated, signed, layoutR, layoutI, layoutMovei, layoutJ, layoutC, layoutM}
+use Rattle.word_layout.specs.Layout.{Part, bits, width, unpack, truncated, signed, layoutR, layoutI, layoutMovei, layoutJ, layoutC, layoutM}
 use Rattle.isa.specs.Rule.{allowsI, allowsJ, allowsM}
 use Rattle.isa.specs.Table.{rowR, rowI, rowMovei, rowJ, rowC, rowM}
 use Rattle.isa.specs.Test.{all}

@@ -15,7 +15,7 @@ use Rattle.isa.proofs.Both.{Each}
 use Rattle.isa.proofs.Parts.{covers, pack-below}
 use Rattle.isa.proofs.RoundTrip.{exact}
 use Rattle.isa.specs.Claims.{Exact}
-use Rattle.isa.specs.Layout.{Part, width, room, layoutR, layoutI, layoutMovei, layoutJ, layoutC, layoutM}
+use Rattle.word_layout.specs.Layout.{Part, width, room, layoutR, layoutI, layoutMovei, layoutJ, layoutC, layoutM}
 use Rattle.isa.specs.Read.{read}
 use Rattle.isa.specs.Write.{write, written as encoded, writeR, writeI, writeMovei, writeJ, writeC, writeM}
 use Rattle.fields.proofs.Again.{encoded-numbers, numbered, own, same, has-word}

@@ -3,7 +3,7 @@ use Prim.Native.Nat.{ℕ, _%_, _^_}
 use mathlib.Core.Bool.{Bool, _&&_, cond}
 use mathlib.Core.List.{List, [], _∷_}
 use lib.Dec.{eqb}
-use Rattle.isa.specs.Layout.{Part, width, field, signedField, pack, firstRegister, secondRegister, thirdRegister, opcodeR, vectorFlagsR, layoutR, prefixR, opcodeI, immediateI, vectorFlagsI, layoutI, prefixI, opcodeMovei, immediateMovei, vectorFlag, layoutMovei, prefixMovei, opcodeJ, offsetJ, layoutJ, prefixJ, opcodeC, layoutC, prefixC, opcodeM, offsetM, layoutM, prefixM}
+use Rattle.word_layout.specs.Layout.{Part, width, field, signedField, pack, firstRegister, secondRegister, thirdRegister, opcodeR, vectorFlagsR, layoutR, prefixR, opcodeI, immediateI, vectorFlagsI, layoutI, prefixI, opcodeMovei, immediateMovei, vectorFlag, layoutMovei, prefixMovei, opcodeJ, offsetJ, layoutJ, prefixJ, opcodeC, layoutC, prefixC, opcodeM, offsetM, layoutM, prefixM}
 use Rattle.isa.specs.Read.{Formats, byFormat}
 use Rattle.fields.specs.Types.{Numbers}
 

@@ -1,13 +1,13 @@
 // Words taken apart into numbers, and put together from them.
 use crate::numbers::Found;
 use crate::numbers::Numbers;
-use isa::PREFIX_C;
-use isa::PREFIX_I;
-use isa::PREFIX_J;
-use isa::PREFIX_M;
-use isa::PREFIX_MOVEI;
-use isa::PREFIX_R;
 use isa::Reading;
+use word_layout::PREFIX_C;
+use word_layout::PREFIX_I;
+use word_layout::PREFIX_J;
+use word_layout::PREFIX_M;
+use word_layout::PREFIX_MOVEI;
+use word_layout::PREFIX_R;
 ghost use Prim.Native.Nat.{_+_, _*_, _<_, _≤_};
 ghost use mathlib.Core.Path.{_≡_};
 ghost use Rattle.fields.specs.Find.{found, wordFor};
@@ -33,8 +33,8 @@ pub fn unpack(w: u32) -> Numbers
     let opcode = w / 0x1000000;
     let first = w / 0x40000 % 64;
     let second = w / 0x1000 % 64;
-    let short = isa::short_signed(w);
-    let long = isa::long_signed(w);
+    let short = word_layout::short_signed(w);
+    let long = word_layout::long_signed(w);
     if w / 0x40000000 == PREFIX_R {
         return numbers_as(0, opcode % 64, w / 2 % 8, first, second, w / 0x40 % 64);
     }

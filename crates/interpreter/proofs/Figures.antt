@@ -5,7 +5,7 @@ use Rattle.interpreter.specs.Figures.{FiguresHold}
 use Rattle.execution.specs.Immediate.{moveImmediate}
 use Rattle.execution.specs.Issue.{executeWord}
 use Rattle.execution.specs.Operation.{binaryInto, unaryInto, compareInto, operateR}
-use Rattle.isa.specs.Layout.{signed}
+use Rattle.word_layout.specs.Layout.{signed}
 use Rattle.isa.specs.Read.{read, readR, readI, readMovei, readJ, readC, readM, asR, asI, asMovei, asJ, asC, asM, accepted, listed}
 use Rattle.isa.specs.Table.{find}
 use Rattle.isa.specs.Test.{all}

@@ -10,7 +10,7 @@ use lib.ListN.{length}
 use Rattle.isa.proofs.Both.{Each, each, together}
 use Rattle.isa.proofs.Parts.{covers, unpack-pack, pack-unpack, pack-below, room-unpack}
 use Rattle.answer.specs.Answer.{Answer, given, refused, undefined}
-use Rattle.isa.specs.Layout.{Part, unpack, pack, room}
+use Rattle.word_layout.specs.Layout.{Part, unpack, pack, room}
 use Rattle.isa.specs.Read.{accepted, listed}
 use Rattle.isa.specs.Test.{all}
 use Rattle.isa.specs.Types.{Instruction}

@@ -12,7 +12,7 @@ use Rattle.isa.proofs.Cases.{by-test, by-accepted, by-listed}
 use Rattle.isa.proofs.Formats.{is-R, is-M}
 use Rattle.answer.specs.Answer.{Answer, given, refused}
 use Rattle.isa.specs.Claims.{namedM, notFittedR, notFittedM, notFitted, NotFittedExactly, RowsHold}
-use Rattle.isa.specs.Layout.{bits, signed}
+use Rattle.word_layout.specs.Layout.{bits, signed}
 use Rattle.isa.specs.Read.{reads, read, readR, readI, readMovei, readJ, readC, readM, asR, asI, asMovei, asJ, asC, asM, accepted, listed}
 use Rattle.isa.specs.Table.{find, operationAt, tableR, tableM, not-fitted-opcodes}
 use Rattle.isa.specs.Test.{all, isIn}

@@ -3,7 +3,7 @@ use Prim.Native.Nat.{ℕ}
 use mathlib.Core.Path.{_≡_}
 use native.Mathlib.Omega.{arith}
 use borrow.Author.Tests.{eq-eqb, ne-eqb}
-use Rattle.isa.specs.Layout.{bits}
+use Rattle.word_layout.specs.Layout.{bits}
 use Rattle.isa.specs.Read.{Formats, byFormat}
 
 module _ {A : Type 0} (f : ℕ → Formats A) (w : ℕ) where

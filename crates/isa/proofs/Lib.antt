@@ -5,7 +5,6 @@ pub mod Tables
 pub mod Room
 pub mod Parts
 pub mod Answers
-pub mod Signed
 pub mod Formats
 pub mod RoundTrip
 pub mod Cases

@@ -11,7 +11,7 @@ use lib.ListN.{length}
 use lib.Pow.{pow-pos, pow-add, mod-pow-add, high, low}
 use borrow.Author.Tests.{eqb-true, leb-true, ltb-true, lt-ltb}
 use Rattle.isa.proofs.Both.{and-left, and-right, Each}
-use Rattle.isa.specs.Layout.{Part, width, unpack, pack, room}
+use Rattle.word_layout.specs.Layout.{Part, width, unpack, pack, room}
 
 -- the parts lie one below the other, from just below bit `top` down to bit 0
 abbrev pub covers : ℕ → List Part → Bool

@@ -6,7 +6,7 @@ use lib.Dec.{eqb}
 use Rattle.isa.proofs.Cases.{by-test, by-accepted, by-listed}
 use Rattle.answer.specs.Answer.{Answer, given, refused}
 use Rattle.isa.specs.Claims.{Ranged, InRange}
-use Rattle.isa.specs.Layout.{bits}
+use Rattle.word_layout.specs.Layout.{bits}
 use Rattle.isa.specs.Read.{accepted, read, readR, readI, readMovei, readJ, readC, readM, asR, asI, asMovei, asJ, asC, asM}
 use Rattle.isa.specs.Types.{Operation, MoveiOp, JumpOp, ControlOp, MemoryOp, Instruction}
 

@@ -11,11 +11,11 @@ use Rattle.isa.proofs.Answers.{not-given, accepted-is, accept, accept-o
 use Rattle.isa.proofs.Both.{each, and-left, and-right, and-both}
 use Rattle.isa.proofs.Formats.{is-R, is-I, is-Movei, is-J, is-C, is-M}
 use Rattle.isa.proofs.Lookup.{found}
-use Rattle.isa.proofs.Signed.{truncated-signed, fits-signed-field, signed-truncated}
+use Rattle.word_layout.proofs.Signed.{truncated-signed, fits-signed-field, signed-truncated}
 use Rattle.isa.proofs.Tables.{finds-R, finds-Movei, finds-J, finds-C, finds-M}
 use Rattle.answer.specs.Answer.{Answer, given, refused, undefined, not-fitted}
 use Rattle.isa.specs.Claims.{Exact, Apart}
-use Rattle.isa.specs.Layout.{bits, layoutR, layoutI, layoutMovei, layoutJ, layoutC, layoutM, truncated, signed}
+use Rattle.word_layout.specs.Layout.{bits, layoutR, layoutI, layoutMovei, layoutJ, layoutC, layoutM, truncated, signed}
 use Rattle.isa.specs.Read.{reads, read, readR, readI, readMovei, readJ, readC, readM, asR, asI, asMovei, asJ, asC, asM, listed}
 use Rattle.isa.specs.Rule.{allowsR, allowsI, allowsMovei, allowsJ, allowsC, allowsM}
 use Rattle.isa.specs.Table.{rowR, rowI, rowMovei, rowJ, rowC, rowM, tableR, tableMovei, tableJ, tableC, tableM}

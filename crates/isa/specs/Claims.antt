@@ -6,7 +6,7 @@ use mathlib.Core.Path.{_≡_}
 use mathlib.Core.Logic.{_↔_}
 use lib.Dec.{eqb, leb}
 use Rattle.answer.specs.Answer.{Answer, given, refused}
-use Rattle.isa.specs.Layout.{bits}
+use Rattle.word_layout.specs.Layout.{bits}
 use Rattle.isa.specs.Read.{read}
 use Rattle.isa.specs.declared.instruction.BinaryOp.the-variants.{Add}
 use Rattle.isa.specs.Types.{Instruction, R, I, Movei, J, C, M, Binary}

@@ -5,7 +5,6 @@ pub mod Text
 pub mod Answer
 pub mod Table
 pub mod Found
-pub mod Layout
 pub mod Rule
 pub mod Read
 pub mod Write

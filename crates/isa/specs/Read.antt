@@ -5,7 +5,7 @@ use mathlib.Core.List.{[], _∷_}
 use mathlib.Core.Option.{Option, none, some}
 use lib.Dec.{eqb}
 use Rattle.answer.specs.Answer.{Answer, given, refused, undefined, not-fitted}
-use Rattle.isa.specs.Layout.{field, signedField, firstRegister, secondRegister, thirdRegister, bit0, formatR, prefixR, opcodeR, bit5, bitL, vectorFlagsR, formatI, prefixI, opcodeI, immediateI, vectorFlagsI, formatMovei, prefixMovei, opcodeMovei, immediateMovei, vectorFlag, formatJ, prefixJ, opcodeJ, offsetJ, formatC, prefixC, opcodeC, lowBitsC, formatM, prefixM, opcodeM, offsetM, bitsM}
+use Rattle.word_layout.specs.Layout.{field, signedField, firstRegister, secondRegister, thirdRegister, bit0, formatR, prefixR, opcodeR, bit5, bitL, vectorFlagsR, formatI, prefixI, opcodeI, immediateI, vectorFlagsI, formatMovei, prefixMovei, opcodeMovei, immediateMovei, vectorFlag, formatJ, prefixJ, opcodeJ, offsetJ, formatC, prefixC, opcodeC, lowBitsC, formatM, prefixM, opcodeM, offsetM, bitsM}
 use Rattle.isa.specs.Rule.{allowsR, allowsI, allowsMovei, allowsJ, allowsC, allowsM}
 use Rattle.isa.specs.Table.{tableR, tableMovei, tableJ, tableC, tableM, not-fitted-opcodes, operationAt}
 use Rattle.isa.specs.Test.{all, isIn}

@@ -3,7 +3,7 @@ use Prim.Native.Nat.{ℕ}
 use mathlib.Core.Bool.{Bool, true, false, _&&_}
 use mathlib.Core.List.{List, [], _∷_}
 use Rattle.answer.specs.Answer.{Answer, given, refused, no-word}
-use Rattle.isa.specs.Layout.{Part, pack, room, layoutR, layoutI, layoutMovei, layoutJ, layoutC, layoutM, prefixR, prefixI, prefixMovei, prefixJ, prefixC, prefixM, truncated, fits-signed, signBit, immediateI, offsetJ, offsetM}
+use Rattle.word_layout.specs.Layout.{Part, pack, room, layoutR, layoutI, layoutMovei, layoutJ, layoutC, layoutM, prefixR, prefixI, prefixMovei, prefixJ, prefixC, prefixM, truncated, fits-signed, signBit, immediateI, offsetJ, offsetM}
 use Rattle.isa.specs.Rule.{allowsR, allowsI, allowsMovei, allowsJ, allowsC, allowsM}
 use Rattle.isa.specs.Table.{rowR, rowI, rowMovei, rowJ, rowC, rowM}
 use Rattle.isa.specs.Test.{all}

@@ -1,22 +1,7 @@
-// Signed fields of a word, and the numbers that they stand for.
+// The numbers that signed fields stand for.
 ghost use mathlib.Core.Path.{_≡_};
 ghost use Prim.Native.Nat.{_*_, _≤_, _<_};
-ghost use Rattle.isa.specs.Layout.{signed, fits-signed, signedField, immediateI, offsetJ};
-
-// The signed number of an I or M word. Half of what a field has room for is added and taken away again, of which the compiler makes two
-// shifts.
-pub fn short_signed(w: u32) -> u32
-    ensures { λ r. ⌜ r ≡ signedField w immediateI ⌝ }
-{
-    std::num::wrapping_sub_u32((w / 8 % 512 + 256) % 512, 256)
-}
-
-// The signed number of a J word.
-pub fn long_signed(w: u32) -> u32
-    ensures { λ r. ⌜ r ≡ signedField w offsetJ ⌝ }
-{
-    std::num::wrapping_sub_u32((w % 0x40000 + 0x20000) % 0x40000, 0x20000)
-}
+ghost use Rattle.word_layout.specs.Layout.{signed, fits-signed};
 
 // The number that a signed field stands for. `half` is what its sign bit weighs.
 fn sign_extend(half: u32, n: u32) -> u32

@@ -1,15 +1,12 @@
 // Instruction words of the house core: read into instructions, and written from them (document 01, "The words").
 mod field;
 mod instruction;
-mod layout;
 mod opcode;
 mod pack;
 mod read;
 mod rule;
 mod write;
 
-pub use field::long_signed;
-pub use field::short_signed;
 pub use instruction::BinaryOp;
 pub use instruction::CompareOp;
 pub use instruction::ControlOp;
@@ -23,12 +20,6 @@ pub use instruction::Reading;
 pub use instruction::StoreOp;
 pub use instruction::UnaryOp;
 pub use instruction::Writing;
-pub use layout::PREFIX_C;
-pub use layout::PREFIX_I;
-pub use layout::PREFIX_J;
-pub use layout::PREFIX_M;
-pub use layout::PREFIX_MOVEI;
-pub use layout::PREFIX_R;
 pub use opcode::opcode_of;
 pub use read::read_word;
 pub use write::write_word;

@@ -1,14 +1,14 @@
 // Words put together from their parts, each of which has room.
-use crate::layout::PREFIX_C;
-use crate::layout::PREFIX_I;
-use crate::layout::PREFIX_J;
-use crate::layout::PREFIX_M;
-use crate::layout::PREFIX_MOVEI;
-use crate::layout::PREFIX_R;
+use word_layout::PREFIX_C;
+use word_layout::PREFIX_I;
+use word_layout::PREFIX_J;
+use word_layout::PREFIX_M;
+use word_layout::PREFIX_MOVEI;
+use word_layout::PREFIX_R;
 ghost use mathlib.Core.Path.{_≡_};
 ghost use mathlib.Core.List.{_∷_, []};
 ghost use Prim.Native.Nat.{_<_};
-ghost use Rattle.isa.specs.Layout.{pack, layoutR, layoutI, layoutMovei, layoutJ, layoutC, layoutM, prefixR, prefixI, prefixMovei, prefixJ, prefixC, prefixM};
+ghost use Rattle.word_layout.specs.Layout.{pack, layoutR, layoutI, layoutMovei, layoutJ, layoutC, layoutM, prefixR, prefixI, prefixMovei, prefixJ, prefixC, prefixM};
 
 pub fn r(opcode: u8, d: u32, a: u32, b: u32, flags: u32) -> u32
     requires { ⌜ (opcode < 64) × (d < 64) × (a < 64) × (b < 64) × (flags < 8) ⌝ }

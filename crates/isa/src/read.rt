@@ -1,5 +1,4 @@
 // Words read into instructions.
-use crate::field;
 use crate::instruction::ControlOp;
 use crate::instruction::Instruction;
 use crate::instruction::JumpOp;
@@ -7,12 +6,6 @@ use crate::instruction::MemoryOp;
 use crate::instruction::MoveiOp;
 use crate::instruction::Operation;
 use crate::instruction::Reading;
-use crate::layout::PREFIX_C;
-use crate::layout::PREFIX_I;
-use crate::layout::PREFIX_J;
-use crate::layout::PREFIX_M;
-use crate::layout::PREFIX_MOVEI;
-use crate::layout::PREFIX_R;
 use crate::opcode;
 use crate::opcode::ControlOpcode;
 use crate::opcode::JumpOpcode;
@@ -20,6 +13,12 @@ use crate::opcode::MemoryOpcode;
 use crate::opcode::MoveiOpcode;
 use crate::opcode::ROpcode;
 use crate::rule;
+use word_layout::PREFIX_C;
+use word_layout::PREFIX_I;
+use word_layout::PREFIX_J;
+use word_layout::PREFIX_M;
+use word_layout::PREFIX_MOVEI;
+use word_layout::PREFIX_R;
 ghost use mathlib.Core.Path.{_≡_};
 ghost use Rattle.isa.specs.Answer.{reading};
 ghost use Rattle.isa.specs.Read.{asR, asI, asMovei, asJ, asC, asM, readR, readI, readMovei, readJ, readC, readM, read};
@@ -49,7 +48,7 @@ fn as_i(w: u32, op: Operation) -> Reading
     let flags = w / 2 % 4;
     let d = w / 0x40000 % 64;
     let a = w / 0x1000 % 64;
-    let immediate = field::short_signed(w);
+    let immediate = word_layout::short_signed(w);
     if (w % 2 == 0) & rule::i_allows(op, flags, d) {
         Reading::Defined(Instruction::I {
             op,
@@ -85,7 +84,7 @@ fn as_j(w: u32, op: JumpOp) -> Reading
     ensures { λ r. ⌜ reading r ≡ asJ w op ⌝ }
 {
     let register = w / 0x40000 % 64;
-    let offset = field::long_signed(w);
+    let offset = word_layout::long_signed(w);
     if rule::j_allows(op, register, offset) {
         Reading::Defined(Instruction::J {
             op,
@@ -114,7 +113,7 @@ fn as_m(w: u32, op: MemoryOp) -> Reading
 {
     let register = w / 0x40000 % 64;
     let base = w / 0x1000 % 64;
-    let offset = field::short_signed(w);
+    let offset = word_layout::short_signed(w);
     if w / 2 % 4 != 0 {
         return Reading::NotFitted;
     }

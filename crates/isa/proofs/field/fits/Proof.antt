@@ -4,7 +4,7 @@ use native.Mathlib.Nat.{mod-lt}
 use native.Mathlib.Omega.{arith}
 use Rattle.isa.proofs.field.fits.Statement.{statement}
 use Rattle.isa.proofs.field.fits.Tie as tie
-use Rattle.isa.specs.Layout.{fits-signed}
+use Rattle.word_layout.specs.Layout.{fits-signed}
 
 pub fits-spec : {M : Type 1} → statement M
 unfolding fits-signed

@@ -4,7 +4,7 @@ use borrow.Author.Tests.{le-leb, lt-leb}
 use native.Mathlib.Omega.{arith}
 use Rattle.isa.proofs.field.sign_extend.Statement.{statement}
 use Rattle.isa.proofs.field.sign_extend.Tie as tie
-use Rattle.isa.specs.Layout.{signed}
+use Rattle.word_layout.specs.Layout.{signed}
 
 pub sign-extend-spec : {M : Type 1} → statement M
 unfolding signed

@@ -2,9 +2,9 @@
 use borrow.Author.Needs.{needs}
 use native.Mathlib.Nat.{div-one}
 use native.Mathlib.Omega.{arith}
-use Rattle.isa.proofs.Signed.{signed-field}
-use Rattle.isa.proofs.field.long_signed.Statement.{statement}
-use Rattle.isa.proofs.field.long_signed.Tie as tie
+use Rattle.word_layout.proofs.Signed.{signed-field}
+use Rattle.word_layout.proofs.field.long_signed.Statement.{statement}
+use Rattle.word_layout.proofs.field.long_signed.Tie as tie
 
 pub long-signed-spec : {M : Type 1} → statement M
 long-signed-spec =

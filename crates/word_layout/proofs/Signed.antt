@@ -6,7 +6,7 @@ use native.Mathlib.Nat.{add-mul-mod-self-left, mod-eq-of-lt, mod-eq-sub-mod}
 use native.Mathlib.Omega.{arith}
 use lib.Dec.{leb, ltb}
 use borrow.Author.Tests.{eq-eqb, eqb-true, leb-true, leb-false, ltb-true, ltb-false}
-use Rattle.isa.specs.Layout.{signed, truncated, fits-signed}
+use Rattle.word_layout.specs.Layout.{signed, truncated, fits-signed}
 
 -- a sign bit that weighs h: the field's range goes k + 1 times into that of a word
 module _ (h k : ℕ) (e : 2 * h * k ≡ 2 ^ 32 - 2 * h) where

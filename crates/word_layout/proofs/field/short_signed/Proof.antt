@@ -1,9 +1,9 @@
 -- `short_signed` meets its contract.
 use borrow.Author.Needs.{needs}
 use native.Mathlib.Omega.{arith}
-use Rattle.isa.proofs.Signed.{signed-field}
-use Rattle.isa.proofs.field.short_signed.Statement.{statement}
-use Rattle.isa.proofs.field.short_signed.Tie as tie
+use Rattle.word_layout.proofs.Signed.{signed-field}
+use Rattle.word_layout.proofs.field.short_signed.Statement.{statement}
+use Rattle.word_layout.proofs.field.short_signed.Tie as tie
 
 pub short-signed-spec : {M : Type 1} → statement M
 short-signed-spec =

@@ -1,0 +1,2 @@
+-- Laws of signed fields.
+pub mod Signed
