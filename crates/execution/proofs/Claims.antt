@@ -33,7 +33,7 @@ use Rattle.execution.specs.Issue.{
 }
 use Rattle.execution.specs.Jump.{inProgram}
 use Rattle.execution.specs.Registers.{programCounter}
-use Rattle.machine.specs.State.{State, state}
+use Rattle.machine.specs.State.{State, state, programCounterRegister}
 use Rattle.execution.specs.Types.{Effect, Stays, Traps, Ends, Meets, Meeting, Ended, Trapped}
 
 -- what an issue makes of a state
@@ -48,7 +48,7 @@ meeting-own pc t room met = go (met .trapped)
   where
     go : (b : Bool) → Own t room (afterMeeting pc t room (record { trapped = b; machine = met .machine }))
     go true = own-none t room
-    go false = own-scalar t room 63 (pc + 4) (omega arith)
+    go false = own-scalar t room programCounterRegister (pc + 4) (omega arith)
 
 module _ (s : State) (t pc : ℕ) where
   -- only a trap leaves the thread trapped

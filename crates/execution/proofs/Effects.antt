@@ -12,6 +12,7 @@ use Rattle.answer.specs.Answer.{Answer, given, refused, undefined}
 use Rattle.isa.proofs.Ranges.{in-range}
 use Rattle.isa.specs.Claims.{Ranged, InRange}
 use Rattle.isa.specs.Read.{read}
+use Rattle.machine.specs.State.{linkRegister, programCounterRegister}
 use Rattle.memory.proofs.Claimed.{lengths}
 use Rattle.answer.specs.Reason.{misaligned, outside-memory}
 use Rattle.memory.specs.Attempt.{Attempt, done, trap, onward}
@@ -24,7 +25,7 @@ use Rattle.execution.specs.Control.{controlRegister, readInto, readContr
 use Rattle.execution.specs.Effect.{Step, step, trapped, next, Executed, beside}
 use Rattle.execution.specs.Issue.{execute, executeRead, executeWord}
 use Rattle.execution.specs.Jump.{inProgram, jumpTo, jumpBy, linked}
-use Rattle.execution.specs.Registers.{scalar, vector, withScalar, withProgramCounter, laneMask, linkRegister, withLanesOn}
+use Rattle.execution.specs.Registers.{scalar, vector, withScalar, withProgramCounter, laneMask, withLanesOn}
 use Rattle.execution.specs.Types.{Effect, Stays, Traps, Ends, Meets, Instruction, R, I, Movei, J, C, M, Jmp, Jmpsr, Jret, Beqz, Bnez, Barrier, Readcr, End, Load, Store, LoadVector, StoreVector, LoadOp, StoreOp}
 
 -- a trap has a reason of 1 to 6
@@ -72,7 +73,7 @@ either t room false h k = k
 
 -- the program counter is the thread's own
 jumps : (t : ℕ) (room : List ℕ) {x : List ℕ} (address : ℕ) → Own t room x → Sound t room (step Stays (withProgramCounter x t address))
-jumps t room {x} address h = record { reasoned = tt; own = own-then h (own-scalar t x 63 address (omega arith)); unchanged = tt }
+jumps t room {x} address h = record { reasoned = tt; own = own-then h (own-scalar t x programCounterRegister address (omega arith)); unchanged = tt }
 
 onwards : (t : ℕ) (room : List ℕ) {x : List ℕ} (pc : ℕ) → Own t room x → Sound t room (next pc t x)
 onwards t room pc h = jumps t room (pc + 4) h
@@ -217,7 +218,7 @@ module _ (words enabled t : ℕ) (room memory : List ℕ) (pc : ℕ) where
       (either t room (not (eqb (scalar room t r) 0)) (jumps-by words t room room (own-none t room) pc o) (onwards t room pc (own-none t room)))
   executes (C Barrier first second) l = record { reasoned = tt; own = own-none t room; bytes = refl; unchanged = refl; unstored = refl }
   executes (C Readcr first second) l = steps t room memory (reads-control enabled t room pc first second (l .0))
-  executes (C End first second) l = record { reasoned = tt; own = own-scalar t room 63 (pc + 4) (omega arith); bytes = refl; unchanged = tt; unstored = tt }
+  executes (C End first second) l = record { reasoned = tt; own = own-scalar t room programCounterRegister (pc + 4) (omega arith); bytes = refl; unchanged = tt; unstored = tt }
   executes (M (Load op) r b o) l = steps t room memory (loads t room memory pc r b o op (l .0))
   executes (M (Store op) r b o) l = stores t room memory pc r b o op
   executes (M LoadVector r b o) l = steps t room memory (loads-lanes t room memory pc r b o (l .0))

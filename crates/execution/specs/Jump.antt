@@ -4,9 +4,10 @@ use mathlib.Core.Bool.{Bool, _&&_, not, cond}
 use mathlib.Core.List.{List}
 use lib.Dec.{eqb, leb, ltb}
 use Rattle.answer.specs.Reason.{outside-program}
+use Rattle.machine.specs.State.{linkRegister}
 use Rattle.memory.specs.Place.{lifted}
 use Rattle.execution.specs.Effect.{Step, step, trapped, next}
-use Rattle.execution.specs.Registers.{scalar, withScalar, withProgramCounter, linkRegister}
+use Rattle.execution.specs.Registers.{scalar, withScalar, withProgramCounter}
 use Rattle.execution.specs.Types.{JumpOp, Jmp, Jmpsr, Jret, Beqz, Bnez, Stays}
 
 -- whether a program of so many words has one at an address: "not a multiple of 4, or at or past the program's end" is none

@@ -10,6 +10,7 @@ use crate::registers;
 use isa::LoadOp;
 use isa::MemoryOp;
 use isa::StoreOp;
+use machine::LANE_MASK;
 use memory::Access;
 use memory::Loaded;
 
@@ -112,7 +113,7 @@ fn store_lanes(
     ensures { λ r. ⌜ executed r (now (room .exit)) (now (memory .exit)) ≡ storeLanesFrom t (now (room .entry)) (now (memory .entry)) pc register base offset ⌝ }
 {
     let from = registers::scalar(room, t, base);
-    let mask = registers::scalar(room, t, registers::LANE_MASK);
+    let mask = registers::scalar(room, t, LANE_MASK);
     let v = registers::vector(room, t, register);
     let access = memory::store_lanes(memory, from, offset, mask, v);
     go_on(room, t, pc, access)

@@ -12,6 +12,7 @@ use crate::execute;
 use crate::jump;
 use crate::registers;
 use machine::Machine;
+use machine::PROGRAM_COUNTER;
 
 // Whether the lengths and the thread are such as a run comes to.
 fn fits(words: usize, room: usize, thread: usize) -> bool
@@ -85,7 +86,7 @@ fn perform(
         ⌝ }
 {
     let words = program.len();
-    let pc = registers::scalar(registers, t, registers::PROGRAM_COUNTER);
+    let pc = registers::scalar(registers, t, PROGRAM_COUNTER);
     if !jump::in_program(words, pc) {
         return Issued {
             machine: machine.trap(t, 4),

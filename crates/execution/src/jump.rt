@@ -9,6 +9,8 @@ ghost use Rattle.execution.specs.Registers.{InRoom};
 use crate::effect::Effect;
 use crate::registers;
 use isa::JumpOp;
+use machine::LINK;
+use machine::PROGRAM_COUNTER;
 
 // Whether a word of the program stands at an address.
 pub fn in_program(words: usize, address: u32) -> bool
@@ -23,7 +25,7 @@ fn jump_to(words: usize, room: &mut [u32], t: usize, address: u32) -> Effect
     ensures { λ r. ⌜ step r (now (room .exit)) ≡ jumpTo words t (now (room .entry)) (now (room .entry)) address ⌝ }
 {
     if in_program(words, address) {
-        registers::set_scalar(room, t, registers::PROGRAM_COUNTER, address);
+        registers::set_scalar(room, t, PROGRAM_COUNTER, address);
         return Effect::Stays;
     }
     Effect::Traps(4)
@@ -43,8 +45,8 @@ fn jump_and_link(words: usize, room: &mut [u32], t: usize, pc: u32, offset: u32)
 {
     let target = std::num::wrapping_add_u32(pc, offset);
     if in_program(words, target) {
-        registers::set_scalar(room, t, registers::LINK, pc + 4);
-        registers::set_scalar(room, t, registers::PROGRAM_COUNTER, target);
+        registers::set_scalar(room, t, LINK, pc + 4);
+        registers::set_scalar(room, t, PROGRAM_COUNTER, target);
         return Effect::Stays;
     }
     Effect::Traps(4)
@@ -78,7 +80,7 @@ pub fn jump(
         JumpOp::Jmp => jump_by(words, room, t, pc, offset),
         JumpOp::Jmpsr => jump_and_link(words, room, t, pc, offset),
         JumpOp::Jret => {
-            let address = registers::scalar(room, t, registers::LINK);
+            let address = registers::scalar(room, t, LINK);
             jump_to(words, room, t, address)
         }
         JumpOp::Beqz => {

@@ -3,13 +3,8 @@ ghost use mathlib.Core.Path.{_≡_};
 ghost use Prim.Native.Nat.{_<_};
 ghost use Rattle.execution.specs.Effect.{advanced};
 ghost use Rattle.execution.specs.Registers.{scalar, vector, withScalar, withVector, withLanesOn, InRoom};
-
-// s59, s62 and s63.
-pub const LANE_MASK: u32 = 59;
-
-pub const LINK: u32 = 62;
-
-pub const PROGRAM_COUNTER: u32 = 63;
+use machine::LANE_MASK;
+use machine::PROGRAM_COUNTER;
 
 pub fn scalar(room: &[u32], t: usize, i: u32) -> u32
     requires { ⌜ InRoom (now room) t × (i < 64) ⌝ }

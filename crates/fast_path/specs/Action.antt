@@ -9,14 +9,14 @@ use Rattle.execution.specs.Issue.{executeWord, issue, issueSetsStatus}
 use Rattle.execution.specs.Jump.{jumpBy}
 use Rattle.execution.specs.Registers.{withScalar}
 use Rattle.isa.specs.Layout.{bits}
-use Rattle.machine.specs.State.{state}
+use Rattle.machine.specs.State.{state, programCounterRegister}
 use Rattle.fast_path.specs.Types.{Action, Write, Next, Jump, Defer, Machine, Stays}
 
 -- a word's top byte says its format and an opcode of it, and bits 23-18 a register that a scalar may be written to
 pub record HasOpcode (w format count opcode : ℕ) : Type 0 where
   pub byte : w / 2 ^ 24 ≡ format + opcode
   pub listed : opcode < count
-  pub free : bits w 23 18 < 63
+  pub free : bits w 23 18 < programCounterRegister
 
 -- the step that an action is, of a word at address pc whose destination is d
 abbrev pub stepOf : ℕ → ℕ → ℕ → ℕ → List ℕ → Action → Option Step

@@ -17,6 +17,7 @@ use crate::table;
 use execution::Issued;
 use isa::StoreOp;
 use machine::Machine;
+use machine::PROGRAM_COUNTER;
 use memory::Access;
 
 // Whether the lengths and the thread are such as a run comes to.
@@ -41,7 +42,7 @@ fn jump(words: usize, room: &mut [u32], t: usize, pc: u32, offset: u32) -> bool
 {
     let target = std::num::wrapping_add_u32(pc, offset);
     if in_program(words, target) {
-        registers::set_scalar(room, t, registers::PROGRAM_COUNTER, target);
+        registers::set_scalar(room, t, PROGRAM_COUNTER, target);
         return true;
     }
     false
@@ -99,7 +100,7 @@ fn word(words: usize, room: &mut [u32], memory: &mut [u8], t: usize, pc: u32, w:
         ⌝ }
 {
     let d = registers::register(w);
-    if d == 63 {
+    if d == PROGRAM_COUNTER as usize {
         return false;
     }
     let top = (w / 0x1000000) as u8;
@@ -125,7 +126,7 @@ fn try_word(program: &[u32], room: &mut [u32], memory: &mut [u8], thread: usize)
     if !fits(words, room.len(), thread) {
         return false;
     }
-    let pc = registers::scalar(room, thread, registers::PROGRAM_COUNTER);
+    let pc = registers::scalar(room, thread, PROGRAM_COUNTER);
     if !in_program(words, pc) {
         return false;
     }

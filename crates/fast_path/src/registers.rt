@@ -4,8 +4,7 @@ ghost use Prim.Native.Nat.{_+_, _<_};
 ghost use Rattle.execution.specs.Effect.{advanced};
 ghost use Rattle.execution.specs.Registers.{scalar, withScalar, InRoom};
 ghost use Rattle.isa.specs.Layout.{bits};
-
-pub const PROGRAM_COUNTER: u32 = 63;
+use machine::PROGRAM_COUNTER;
 
 pub fn scalar(room: &[u32], t: usize, i: u32) -> u32
     requires { ⌜ InRoom (now room) t × (i < 64) ⌝ }
