@@ -8,7 +8,7 @@ ghost use Rattle.execution.specs.Jump.{inProgram};
 ghost use Rattle.execution.specs.Registers.{InRoom};
 ghost use Rattle.isa.specs.Table.{rowM};
 ghost use Rattle.machine.specs.State.{state};
-ghost use Rattle.fast_path.specs.Action.{HasOpcode, stepOf, Goes, TriedStore, TriedWord, TriedIssue};
+ghost use Rattle.fast_path.specs.Action.{HasOpcode, GoesBy, TriedStore, TriedWord, TriedIssue};
 ghost use Rattle.fast_path.specs.Types.{Jump, Store};
 use crate::action::Action;
 use crate::field;
@@ -38,7 +38,7 @@ fn in_program(words: usize, address: u32) -> bool
 // The sum wraps: a negative target comes out past the end of every program.
 fn jump(words: usize, room: &mut [u32], t: usize, pc: u32, offset: u32) -> bool
     requires { ⌜ InRoom (now room) t × (words ≤ programWords) × (pc < 65536) ⌝ }
-    ensures { λ r. ⌜ Goes (stepOf words t pc 0 (now (room .entry)) (Jump offset)) (now (room .entry)) r (now (room .exit)) ⌝ }
+    ensures { λ r. ⌜ GoesBy t pc words 0 (now (room .entry)) (Jump offset) r (now (room .exit)) ⌝ }
 {
     let target = std::num::wrapping_add_u32(pc, offset);
     if in_program(words, target) {
@@ -51,7 +51,7 @@ fn jump(words: usize, room: &mut [u32], t: usize, pc: u32, offset: u32) -> bool
 // The action of a word at address pc whose destination is d.
 fn act(words: usize, room: &mut [u32], t: usize, pc: u32, d: usize, action: Action) -> bool
     requires { ⌜ InRoom (now room) t × (words ≤ programWords) × (pc < 65536) × (d < 64) ⌝ }
-    ensures { λ r. ⌜ Goes (stepOf words t pc d (now (room .entry)) action) (now (room .entry)) r (now (room .exit)) ⌝ }
+    ensures { λ r. ⌜ GoesBy t pc words d (now (room .entry)) action r (now (room .exit)) ⌝ }
 {
     match action {
         Action::Write(x) => {
@@ -96,7 +96,7 @@ fn store(room: &mut [u32], memory: &mut [u8], t: usize, pc: u32, w: u32, op: Sto
 fn word(words: usize, room: &mut [u32], memory: &mut [u8], t: usize, pc: u32, w: u32) -> bool
     requires { ⌜ InRoom (now room) t × (words ≤ programWords) × (pc < 65536) ⌝ }
     ensures { λ r. ⌜
-        TriedWord words t pc w (now (room .entry)) (now (memory .entry)) r (now (room .exit)) (now (memory .exit))
+        TriedWord t pc words w (now (room .entry)) (now (memory .entry)) r (now (room .exit)) (now (memory .exit))
         ⌝ }
 {
     let d = registers::register(w);

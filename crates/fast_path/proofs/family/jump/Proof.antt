@@ -8,51 +8,51 @@ use Rattle.fast_path.proofs.family.jump.Statement.{statement}
 use Rattle.fast_path.proofs.family.jump.Tie as tie
 
 returns : tie.Need-returns
-returns c memory words enabled pc =
+returns c memory pc enabled words =
     let told = c .before in
     let read = told .before .before in
     let f = read .before .before .before .before in
     let a = f .args in
     rw (read .offset .ensures)
     (jumps (a .t) (a .room .now) (a .w) Jmp (rw (told .enum-told .given .1) at (f .pre .1))
-    (eq-eqb _ 0 (sym (read .before .before .register .ensures) ∙ c .if1 .taken)) memory words enabled pc)
+    (eq-eqb _ 0 (sym (read .before .before .register .ensures) ∙ c .if1 .taken)) memory pc enabled words)
 
 returns-5 : tie.Need-returns-5
-returns-5 c memory words enabled pc =
+returns-5 c memory pc enabled words =
     let told = c .before in
     let read = told .before .before in
     let f = read .before .before .before .before in
     let a = f .args in
     rw (read .offset .ensures)
-    (jumps (a .t) (a .room .now) (a .w) Beqz (rw (told .enum-told4 .given .1) at (f .pre .1)) refl memory words enabled pc
+    (jumps (a .t) (a .room .now) (a .w) Beqz (rw (told .enum-told4 .given .1) at (f .pre .1)) refl memory pc enabled words
     ∙ rw (← read .before .operand-d .ensures, eq-eqb _ 0 (c .if2 .taken)))
 
 returns-6 : tie.Need-returns-6
-returns-6 c memory words enabled pc =
+returns-6 c memory pc enabled words =
     let told = c .before in
     let read = told .before .before in
     let f = read .before .before .before .before in
     let a = f .args in
-    jumps (a .t) (a .room .now) (a .w) Beqz (rw (told .enum-told4 .given .1) at (f .pre .1)) refl memory words enabled pc
+    jumps (a .t) (a .room .now) (a .w) Beqz (rw (told .enum-told4 .given .1) at (f .pre .1)) refl memory pc enabled words
     ∙ rw (← read .before .operand-d .ensures, ne-eqb _ 0 (c .if2 .left))
 
 returns-7 : tie.Need-returns-7
-returns-7 c memory words enabled pc =
+returns-7 c memory pc enabled words =
     let told = c .before in
     let read = told .before .before in
     let f = read .before .before .before .before in
     let a = f .args in
     rw (read .offset .ensures)
-    (jumps (a .t) (a .room .now) (a .w) Bnez (rw (told .enum-told5 .given .1) at (f .pre .1)) refl memory words enabled pc
+    (jumps (a .t) (a .room .now) (a .w) Bnez (rw (told .enum-told5 .given .1) at (f .pre .1)) refl memory pc enabled words
     ∙ rw (← read .before .operand-d .ensures, ne-eqb _ 0 (c .if3 .taken)))
 
 returns-8 : tie.Need-returns-8
-returns-8 c memory words enabled pc =
+returns-8 c memory pc enabled words =
     let told = c .before in
     let read = told .before .before in
     let f = read .before .before .before .before in
     let a = f .args in
-    jumps (a .t) (a .room .now) (a .w) Bnez (rw (told .enum-told5 .given .1) at (f .pre .1)) refl memory words enabled pc
+    jumps (a .t) (a .room .now) (a .w) Bnez (rw (told .enum-told5 .given .1) at (f .pre .1)) refl memory pc enabled words
     ∙ rw (← read .before .operand-d .ensures, eq-eqb _ 0 (c .if3 .left))
 
 pub jump-spec : {M : Type 1} → statement M
