@@ -18,5 +18,6 @@ pub use Rattle.isa.specs.declared.instruction.Instruction.{Instruction}
 pub use Rattle.isa.specs.declared.instruction.Instruction.the-variants.{R, I, Movei, J, M}
 pub use Rattle.machine.specs.declared.record.Machine.{Machine}
 pub use Rattle.execution.specs.declared.context.Context.{Context}
+pub use Rattle.execution.specs.declared.operand.Source.the-variants.{Scalar}
 pub use Rattle.execution.specs.declared.effect.Effect.{Effect}
 pub use Rattle.execution.specs.declared.effect.Effect.the-variants.{Stays}
