@@ -20,7 +20,8 @@ use Rattle.execution.proofs.Effects.{Reasoned, UnlessGoesOn, executes-w
 use Rattle.execution.proofs.OwnRegisters.{Own, own-none, own-then, own-scalar, own-others}
 use Rattle.execution.specs.Claims.{Performs, Lengths, Issues, Untouched, TrapsOnly, TrapsAlone, OthersKeepRegisters}
 use Rattle.execution.specs.Issue.{
-  executeWord,
+  contextOf,
+  executeAt,
   afterMeeting,
   settle,
   settled,
@@ -33,8 +34,8 @@ use Rattle.execution.specs.Issue.{
 }
 use Rattle.execution.specs.Jump.{inProgram}
 use Rattle.execution.specs.Registers.{programCounter}
-use Rattle.machine.specs.State.{State, state}
-use Rattle.execution.specs.Types.{Effect, Stays, Traps, Ends, Meets, Meeting, Ended, Trapped}
+use Rattle.machine.specs.State.{State, state, programCounterRegister}
+use Rattle.execution.specs.Types.{Context, Effect, Stays, Traps, Ends, Meets, Meeting, Ended, Trapped}
 
 -- what an issue makes of a state
 record Lawful-issue (s : State) (t : ℕ) (n : State) : Type 0 where
@@ -43,39 +44,39 @@ record Lawful-issue (s : State) (t : ℕ) (n : State) : Type 0 where
   bytes : length (n .memory) ≡ length (s .memory)
   traps-only : (reason : ℕ) → runs (s .machine) t ≡ true → statusAt (n .machine) t ≡ Trapped reason → TrapsOnly s t n
 
-meeting-own : (pc t : ℕ) (room : List ℕ) (met : Meeting) → Own t room (afterMeeting pc t room met)
-meeting-own pc t room met = go (met .trapped)
+meeting-own : (c : Context) (room : List ℕ) (met : Meeting) → Own (c .thread) room (afterMeeting c room met)
+meeting-own c room met = go (met .trapped)
   where
-    go : (b : Bool) → Own t room (afterMeeting pc t room (record { trapped = b; machine = met .machine }))
-    go true = own-none t room
-    go false = own-scalar t room 63 (pc + 4) (omega arith)
+    go : (b : Bool) → Own (c .thread) room (afterMeeting c room (record { trapped = b; machine = met .machine }))
+    go true = own-none (c .thread) room
+    go false = own-scalar (c .thread) room programCounterRegister (c .pc + 4) (omega arith)
 
-module _ (s : State) (t pc : ℕ) where
+module _ (s : State) (c : Context) where
   -- only a trap leaves the thread trapped
   settled-trap : (e : Effect) (room memory : List ℕ) → UnlessGoesOn e (room ≡ s .registers) → UnlessGoesOn e (memory ≡ s .memory) → (reason : ℕ)
-      → runs (s .machine) t ≡ true → statusAt (settle (s .machine) t pc room memory e .machine) t ≡ Trapped reason
-      → TrapsOnly s t (settle (s .machine) t pc room memory e)
+      → runs (s .machine) (c .thread) ≡ true → statusAt (settle (s .machine) c room memory e .machine) (c .thread) ≡ Trapped reason
+      → TrapsOnly s (c .thread) (settle (s .machine) c room memory e)
   unfolding meet
   settled-trap Stays room memory u v reason r h = never r (ap isRunning h)
   settled-trap (Traps q) room memory u v reason r h =
-      record { registers = u; memory = v; enabled = refl; last = refl; others = set-other (s .machine) t (Trapped q) }
+      record { registers = u; memory = v; enabled = refl; last = refl; others = set-other (s .machine) (c .thread) (Trapped q) }
   settled-trap Ends room memory u v reason r h =
-      let e : Ended ≡ Trapped reason = sym (set-same (s .machine) t Ended (running-entry (s .machine) t r)) ∙ h in
+      let e : Ended ≡ Trapped reason = sym (set-same (s .machine) (c .thread) Ended (running-entry (s .machine) (c .thread) r)) ∙ h in
       absurd (let z : _≡_ {A = ℕ} 0 1 = cc in omega arith)
-  settled-trap (Meets id second) room memory u v reason r h = go (refusesMeeting (s .machine) t id second) h
+  settled-trap (Meets id second) room memory u v reason r h = go (refusesMeeting (s .machine) (c .thread) id second) h
     where
       met : Bool → Meeting
       met b =
           cond b
-          (record { trapped = true; machine = trap (s .machine) t 5 })
-          (record { trapped = false; machine = arrive (s .machine) t id (second + 1) })
+          (record { trapped = true; machine = trap (s .machine) (c .thread) 5 })
+          (record { trapped = false; machine = arrive (s .machine) (c .thread) id (second + 1) })
 
-      go : (b : Bool) → statusAt (met b .machine) t ≡ Trapped reason → TrapsOnly s t (state (met b .machine) (afterMeeting pc t room (met b)) memory)
-      go true k = record { registers = u; memory = v; enabled = refl; last = refl; others = set-other (s .machine) t (Trapped 5) }
-      go false k = absurd (arrives-untrapped (s .machine) t id (second + 1) reason (running-entry (s .machine) t r) k)
+      go : (b : Bool) → statusAt (met b .machine) (c .thread) ≡ Trapped reason → TrapsOnly s (c .thread) (state (met b .machine) (afterMeeting c room (met b)) memory)
+      go true k = record { registers = u; memory = v; enabled = refl; last = refl; others = set-other (s .machine) (c .thread) (Trapped 5) }
+      go false k = absurd (arrives-untrapped (s .machine) (c .thread) id (second + 1) reason (running-entry (s .machine) (c .thread) r) k)
 
-  settles : (e : Effect) (room memory : List ℕ) → Reasoned e → Own t (s .registers) room → length memory ≡ length (s .memory)
-      → UnlessGoesOn e (room ≡ s .registers) → UnlessGoesOn e (memory ≡ s .memory) → Lawful-issue s t (settle (s .machine) t pc room memory e)
+  settles : (e : Effect) (room memory : List ℕ) → Reasoned e → Own (c .thread) (s .registers) room → length memory ≡ length (s .memory)
+      → UnlessGoesOn e (room ≡ s .registers) → UnlessGoesOn e (memory ≡ s .memory) → Lawful-issue s (c .thread) (settle (s .machine) c room memory e)
   settles Stays room memory h k l u v =
       record {
         sound = record { enabled = refl; last = refl; running = λ x n r. r; well-formed = λ w r. w };
@@ -84,30 +85,30 @@ module _ (s : State) (t pc : ℕ) where
         traps-only = settled-trap Stays room memory u v;
       }
   settles (Traps reason) room memory h k l u v =
-      record { sound = traps (s .machine) t reason (h .0) (h .1); own = k; bytes = l; traps-only = settled-trap (Traps reason) room memory u v }
+      record { sound = traps (s .machine) (c .thread) reason (h .0) (h .1); own = k; bytes = l; traps-only = settled-trap (Traps reason) room memory u v }
   settles Ends room memory h k l u v =
-      record { sound = ends (s .machine) t; own = k; bytes = l; traps-only = settled-trap Ends room memory u v }
+      record { sound = ends (s .machine) (c .thread); own = k; bytes = l; traps-only = settled-trap Ends room memory u v }
   settles (Meets id second) room memory h k l u v =
       record {
-        sound = meets (s .machine) t id second;
-        own = own-then k (meeting-own pc t room (meet (s .machine) t id second));
+        sound = meets (s .machine) (c .thread) id second;
+        own = own-then k (meeting-own c room (meet (s .machine) (c .thread) id second));
         bytes = l;
         traps-only = settled-trap (Meets id second) room memory u v;
       }
 
-  either : (b : Bool) (x y : State) → Lawful-issue s t x → Lawful-issue s t y → Lawful-issue s t (cond b x y)
+  either : (b : Bool) (x y : State) → Lawful-issue s (c .thread) x → Lawful-issue s (c .thread) y → Lawful-issue s (c .thread) (cond b x y)
   either true x y h k = h
   either false x y h k = k
 
 lawful : (p : List ℕ) (s : State) (t : ℕ) → Lawful-issue s t (perform p s t)
 unfolding perform
 lawful p s t =
-    let pc = programCounter (s .registers) t in
-    let x = executeWord (length p) (s .machine .enabled) t (s .registers) (s .memory) pc (getD p (pc / 4) 0) in
-    let h = executes-word (length p) (s .machine .enabled) t (s .registers) (s .memory) pc (getD p (pc / 4) 0) in
-    either s t pc (inProgram (length p) pc) (settled (s .machine) t pc x) _
-    (settles s t pc (x .effect) (x .registers) (x .memory) (h .reasoned) (h .own) (h .bytes) (h .unchanged) (h .unstored))
-    (settles s t pc (Traps 4) (s .registers) (s .memory) (omega arith, omega arith) (own-none t (s .registers)) refl refl refl)
+    let c = contextOf p s t in
+    let x = executeAt p s c in
+    let h = executes-word c (s .registers) (s .memory) (getD p (c .pc / 4) 0) in
+    either s c (inProgram (c .words) (c .pc)) (settled (s .machine) c x) _
+    (settles s c (x .effect) (x .registers) (x .memory) (h .reasoned) (h .own) (h .bytes) (h .unchanged) (h .unstored))
+    (settles s c (Traps 4) (s .registers) (s .memory) (omega arith, omega arith) (own-none t (s .registers)) refl refl refl)
 
 pub performs : Performs
 performs p s t = lawful p s t .sound
@@ -125,25 +126,25 @@ pub issues : Issues
 unfolding issue
 issues p s t a b c = rw (le-leb _ _ a, eq-eqb _ _ b, lt-ltb _ _ c)
 
-settle-untouched : (s : State) (t pc : ℕ) (room memory : List ℕ) (e : Effect) → setsStatus e ≡ false →
-    settle (s .machine) t pc room memory e .machine ≡ s .machine
-settle-untouched s t pc room memory Stays h = refl
-settle-untouched s t pc room memory (Traps reason) h = never refl h
-settle-untouched s t pc room memory Ends h = never refl h
-settle-untouched s t pc room memory (Meets id second) h = never refl h
+settle-untouched : (s : State) (c : Context) (room memory : List ℕ) (e : Effect) → setsStatus e ≡ false →
+    settle (s .machine) c room memory e .machine ≡ s .machine
+settle-untouched s c room memory Stays h = refl
+settle-untouched s c room memory (Traps reason) h = never refl h
+settle-untouched s c room memory Ends h = never refl h
+settle-untouched s c room memory (Meets id second) h = never refl h
 
 pub untouched : Untouched
 unfolding issue issueSetsStatus perform performSetsStatus
 untouched p s t h = go (fits (length p) (length (s .registers)) t) (inProgram (length p) (programCounter (s .registers) t)) h
   where
-    pc : ℕ
-    pc = programCounter (s .registers) t
+    c : Context
+    c = contextOf p s t
 
     x : Executed
-    x = executeWord (length p) (s .machine .enabled) t (s .registers) (s .memory) pc (getD p (pc / 4) 0)
+    x = executeAt p s c
 
     go : (f i : Bool) → cond f (cond i (setsStatus (x .effect)) true) false ≡ false →
-        cond f (cond i (settled (s .machine) t pc x) (state (trap (s .machine) t 4) (s .registers) (s .memory))) s .machine ≡ s .machine
-    go true true k = settle-untouched s t pc (x .registers) (x .memory) (x .effect) k
+        cond f (cond i (settled (s .machine) c x) (state (trap (s .machine) t 4) (s .registers) (s .memory))) s .machine ≡ s .machine
+    go true true k = settle-untouched s c (x .registers) (x .memory) (x .effect) k
     go true false k = never refl k
     go false i k = refl

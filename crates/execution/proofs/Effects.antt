@@ -12,6 +12,7 @@ use Rattle.answer.specs.Answer.{Answer, given, refused, undefined}
 use Rattle.isa.proofs.Ranges.{in-range}
 use Rattle.isa.specs.Claims.{Ranged, InRange}
 use Rattle.isa.specs.Read.{read}
+use Rattle.machine.specs.State.{linkRegister, programCounterRegister}
 use Rattle.memory.proofs.Claimed.{lengths}
 use Rattle.answer.specs.Reason.{misaligned, outside-memory}
 use Rattle.memory.specs.Attempt.{Attempt, done, trap, onward}
@@ -24,8 +25,8 @@ use Rattle.execution.specs.Control.{controlRegister, readInto, readContr
 use Rattle.execution.specs.Effect.{Step, step, trapped, next, Executed, beside}
 use Rattle.execution.specs.Issue.{execute, executeRead, executeWord}
 use Rattle.execution.specs.Jump.{inProgram, jumpTo, jumpBy, linked}
-use Rattle.execution.specs.Registers.{scalar, vector, withScalar, withProgramCounter, laneMask, linkRegister, withLanesOn}
-use Rattle.execution.specs.Types.{Effect, Stays, Traps, Ends, Meets, Instruction, R, I, Movei, J, C, M, Jmp, Jmpsr, Jret, Beqz, Bnez, Barrier, Readcr, End, Load, Store, LoadVector, StoreVector, LoadOp, StoreOp}
+use Rattle.execution.specs.Registers.{scalar, vector, withScalar, withProgramCounter, laneMask, withLanesOn}
+use Rattle.execution.specs.Types.{Context, Effect, Stays, Traps, Ends, Meets, Instruction, R, I, Movei, J, C, M, Jmp, Jmpsr, Jret, Beqz, Bnez, Barrier, Readcr, End, Load, Store, LoadVector, StoreVector, LoadOp, StoreOp}
 
 -- a trap has a reason of 1 to 6
 abbrev pub Reasoned : Effect → Type 0
@@ -72,10 +73,10 @@ either t room false h k = k
 
 -- the program counter is the thread's own
 jumps : (t : ℕ) (room : List ℕ) {x : List ℕ} (address : ℕ) → Own t room x → Sound t room (step Stays (withProgramCounter x t address))
-jumps t room {x} address h = record { reasoned = tt; own = own-then h (own-scalar t x 63 address (omega arith)); unchanged = tt }
+jumps t room {x} address h = record { reasoned = tt; own = own-then h (own-scalar t x programCounterRegister address (omega arith)); unchanged = tt }
 
-onwards : (t : ℕ) (room : List ℕ) {x : List ℕ} (pc : ℕ) → Own t room x → Sound t room (next pc t x)
-onwards t room pc h = jumps t room (pc + 4) h
+onwards : (c : Context) (room : List ℕ) {x : List ℕ} → Own (c .thread) room x → Sound (c .thread) room (next c x)
+onwards c room h = jumps (c .thread) room (c .pc + 4) h
 
 trap-sound : (t : ℕ) (room : List ℕ) (reason : ℕ) → 1 ≤ reason → reason ≤ 6 → Sound t room (trapped reason room)
 trap-sound t room reason l h = record { reasoned = (l, h); own = own-none t room; unchanged = refl }
@@ -84,23 +85,24 @@ traps-four : (t : ℕ) (room : List ℕ) → Sound t room (trapped 4 room)
 traps-four t room = trap-sound t room 4 (omega arith) (omega arith)
 
 -- Jumps.
-module _ (words t : ℕ) (room linked : List ℕ) (k : Own t room linked) where
-  jumps-to : (address : ℕ) → Sound t room (jumpTo words t room linked address)
+module _ (c : Context) (room linked : List ℕ) (k : Own (c .thread) room linked) where
+  jumps-to : (address : ℕ) → Sound (c .thread) room (jumpTo c room linked address)
   unfolding jumpTo
-  jumps-to address = either t room (inProgram words address) (jumps t room address k) (traps-four t room)
+  jumps-to address = either (c .thread) room (inProgram (c .words) address) (jumps (c .thread) room address k) (traps-four (c .thread) room)
 
-  jumps-by : (pc offset : ℕ) → Sound t room (jumpBy words t room linked pc offset)
+  jumps-by : (offset : ℕ) → Sound (c .thread) room (jumpBy c room linked offset)
   unfolding jumpBy
-  jumps-by pc offset = either t room (leb (2 ^ 32) (lifted pc offset)) (jumps-to (lifted pc offset - 2 ^ 32)) (traps-four t room)
+  jumps-by offset =
+      either (c .thread) room (leb (2 ^ 32) (lifted (c .pc) offset)) (jumps-to (lifted (c .pc) offset - 2 ^ 32)) (traps-four (c .thread) room)
 
 -- readcr
-reads-into : (t : ℕ) (room : List ℕ) (pc d : ℕ) (o : Option ℕ) → d < 64 → Sound t room (readInto pc t room d o)
-reads-into t room pc d none l = trap-sound t room 6 (omega arith) (omega arith)
-reads-into t room pc d (some x) l = onwards t room pc (own-scalar t room d x l)
+reads-into : (c : Context) (room : List ℕ) (d : ℕ) (o : Option ℕ) → d < 64 → Sound (c .thread) room (readInto c room d o)
+reads-into c room d none l = trap-sound (c .thread) room 6 (omega arith) (omega arith)
+reads-into c room d (some x) l = onwards c room (own-scalar (c .thread) room d x l)
 
-reads-control : (enabled t : ℕ) (room : List ℕ) (pc first second : ℕ) → first < 64 → Sound t room (readControl enabled t room pc first second)
+reads-control : (c : Context) (room : List ℕ) (first second : ℕ) → first < 64 → Sound (c .thread) room (readControl c room first second)
 unfolding readControl
-reads-control enabled t room pc first second l = reads-into t room pc first (controlRegister enabled t pc (scalar room t second)) l
+reads-control c room first second l = reads-into c room first (controlRegister c (scalar room (c .thread) second)) l
 
 -- Loads and stores: an access traps with 1 or 2.
 abbrev Attempted : {A : Type 0} → Attempt A → Type 0
@@ -134,10 +136,10 @@ gathers : (a : Attempt ℕ) (m : List ℕ) → Attempted a → Attempted (gather
 gathers (done x) m h = tt
 gathers (trap reason) m h = h
 
-attempts : {A : Type 0} (t : ℕ) (room : List ℕ) (pc : ℕ) (a : Attempt A) (f : A → List ℕ) → ((x : A) → Own t room (f x)) → Attempted a →
-    Sound t room (attempted pc t room a f)
-attempts t room pc (done x) f k h = onwards t room pc (k x)
-attempts t room pc (trap reason) f k h = trap-sound t room reason (h .0) (omega (arith, h .1))
+attempts : {A : Type 0} (c : Context) (room : List ℕ) (a : Attempt A) (f : A → List ℕ) → ((x : A) → Own (c .thread) room (f x)) → Attempted a →
+    Sound (c .thread) room (attempted c room a f)
+attempts c room (done x) f k h = onwards c room (k x)
+attempts c room (trap reason) f k h = trap-sound (c .thread) room reason (h .0) (omega (arith, h .1))
 
 load-attempted : (op : LoadOp) (memory : List ℕ) (base offset : ℕ) → Attempted (load op memory base offset)
 unfolding load
@@ -157,73 +159,76 @@ unfolding storeLanes
 store-lanes-attempted memory base offset mask v = changes (vectorPlace memory base offset) memory (λ a. withLanes memory a mask v) (vector-placed memory base offset)
 
 -- a store that traps leaves memory
-change-kept : (a : Attempt ℕ) (m : List ℕ) (f : ℕ → List ℕ) (t pc : ℕ) (room : List ℕ)
-    → UnlessGoesOn (stored pc t room (changed a m f) .effect) (changed a m f .memory ≡ m)
-change-kept (done x) m f t pc room = tt
-change-kept (trap reason) m f t pc room = refl
+change-kept : (a : Attempt ℕ) (m : List ℕ) (f : ℕ → List ℕ) (c : Context) (room : List ℕ)
+    → UnlessGoesOn (stored c room (changed a m f) .effect) (changed a m f .memory ≡ m)
+change-kept (done x) m f c room = tt
+change-kept (trap reason) m f c room = refl
 
-module _ (t : ℕ) (room memory : List ℕ) (pc register base offset : ℕ) where
-  loads : (op : LoadOp) → register < 64 → Sound t room (loadInto t room memory pc op register base offset)
-  unfolding loadInto
-  loads op l =
-      attempts t room pc (load op memory (scalar room t base) offset) (λ x. withScalar room t register x) (λ x. own-scalar t room register x l)
-      (load-attempted op memory (scalar room t base) offset)
+module _ (c : Context) (room memory : List ℕ) where
+  abbrev t : ℕ
+  t = c .thread
 
-  loads-lanes : register < 64 → Sound t room (loadLanesInto t room memory pc register base offset)
-  unfolding loadLanesInto
-  loads-lanes l =
-      let g = loadLanes memory (scalar room t base) offset in
-      attempts t room pc (g .answer) (λ x. withLanesOn room t register (g .lanes)) (λ x. own-lanes t room register (g .lanes) l)
-      (load-lanes-attempted memory (scalar room t base) offset)
+  module _ (register base offset : ℕ) where
+    loads : (op : LoadOp) → register < 64 → Sound t room (loadInto c room memory op register base offset)
+    unfolding loadInto
+    loads op l =
+        attempts c room (load op memory (scalar room t base) offset) (λ x. withScalar room t register x) (λ x. own-scalar t room register x l)
+        (load-attempted op memory (scalar room t base) offset)
 
-  -- a store: the registers are those of an attempt that leads on to the room itself
-  leaves : (o : Outcome) → Attempted (o .answer) → length (o .memory) ≡ length memory
-      → UnlessGoesOn (stored pc t room o .effect) (o .memory ≡ memory) → Lawful t room memory (stored pc t room o)
-  leaves o h k u =
-      let a = attempts t room pc (o .answer) (λ x. room) (λ x. own-none t room) h in
-      record { reasoned = a .reasoned; own = a .own; bytes = k; unchanged = a .unchanged; unstored = u }
+    loads-lanes : register < 64 → Sound t room (loadLanesInto c room memory register base offset)
+    unfolding loadLanesInto
+    loads-lanes l =
+        let g = loadLanes memory (scalar room t base) offset in
+        attempts c room (g .answer) (λ x. withLanesOn room t register (g .lanes)) (λ x. own-lanes t room register (g .lanes) l)
+        (load-lanes-attempted memory (scalar room t base) offset)
 
-  stores : (op : StoreOp) → Lawful t room memory (storeFrom t room memory pc op register base offset)
-  unfolding storeFrom store
-  stores op =
-      leaves (store op memory (scalar room t base) offset (scalar room t register)) (store-attempted op memory (scalar room t base) offset (scalar room t register))
-      (lengths .of-store op memory (scalar room t base) offset (scalar room t register))
-      (change-kept (scalarPlace (bytesStored op) memory (scalar room t base) offset) memory
-      (λ a. withNumber (bytesStored op) memory a (scalar room t register)) t pc room)
+    -- a store: the registers are those of an attempt that leads on to the room itself
+    leaves : (o : Outcome) → Attempted (o .answer) → length (o .memory) ≡ length memory
+        → UnlessGoesOn (stored c room o .effect) (o .memory ≡ memory) → Lawful t room memory (stored c room o)
+    leaves o h k u =
+        let a = attempts c room (o .answer) (λ x. room) (λ x. own-none t room) h in
+        record { reasoned = a .reasoned; own = a .own; bytes = k; unchanged = a .unchanged; unstored = u }
 
-  stores-lanes : Lawful t room memory (storeLanesFrom t room memory pc register base offset)
-  unfolding storeLanesFrom storeLanes
-  stores-lanes =
-      let v = vector room t register in
-      let mask = laneMask room t in
-      leaves (storeLanes memory (scalar room t base) offset mask v) (store-lanes-attempted memory (scalar room t base) offset mask v)
-      (lengths .of-store-lanes memory (scalar room t base) offset mask v)
-      (change-kept (vectorPlace memory (scalar room t base) offset) memory (λ a. withLanes memory a mask v) t pc room)
+    stores : (op : StoreOp) → Lawful t room memory (storeFrom c room memory op register base offset)
+    unfolding storeFrom store
+    stores op =
+        leaves (store op memory (scalar room t base) offset (scalar room t register)) (store-attempted op memory (scalar room t base) offset (scalar room t register))
+        (lengths .of-store op memory (scalar room t base) offset (scalar room t register))
+        (change-kept (scalarPlace (bytesStored op) memory (scalar room t base) offset) memory
+        (λ a. withNumber (bytesStored op) memory a (scalar room t register)) c room)
 
--- Every instruction.
-module _ (words enabled t : ℕ) (room memory : List ℕ) (pc : ℕ) where
-  executes : (i : Instruction) → Ranged i → Lawful t room memory (execute words enabled t room memory pc i)
-  executes (R op flags d a b) l = steps t room memory (onwards t room pc (own-R t room op flags d a b (l .0)))
-  executes (I op flags d a n) l = steps t room memory (onwards t room pc (own-I t room op flags d a n (l .0)))
-  executes (Movei op flag d n) l = steps t room memory (onwards t room pc (own-Movei t room op (eqb flag 1) d n (l .0)))
-  executes (J Jmp r o) l = steps t room memory (jumps-by words t room room (own-none t room) pc o)
-  executes (J Jmpsr r o) l = steps t room memory (jumps-by words t room (linked pc t room) (own-scalar t room linkRegister (pc + 4) (omega arith)) pc o)
-  executes (J Jret r o) l = steps t room memory (jumps-to words t room room (own-none t room) (scalar room t linkRegister))
+    stores-lanes : Lawful t room memory (storeLanesFrom c room memory register base offset)
+    unfolding storeLanesFrom storeLanes
+    stores-lanes =
+        let v = vector room t register in
+        let mask = laneMask room t in
+        leaves (storeLanes memory (scalar room t base) offset mask v) (store-lanes-attempted memory (scalar room t base) offset mask v)
+        (lengths .of-store-lanes memory (scalar room t base) offset mask v)
+        (change-kept (vectorPlace memory (scalar room t base) offset) memory (λ a. withLanes memory a mask v) c room)
+
+  -- every instruction
+  executes : (i : Instruction) → Ranged i → Lawful t room memory (execute c room memory i)
+  executes (R op flags d a b) l = steps t room memory (onwards c room (own-R t room op flags d a b (l .0)))
+  executes (I op flags d a n) l = steps t room memory (onwards c room (own-I t room op flags d a n (l .0)))
+  executes (Movei op flag d n) l = steps t room memory (onwards c room (own-Movei t room op (eqb flag 1) d n (l .0)))
+  executes (J Jmp r o) l = steps t room memory (jumps-by c room room (own-none t room) o)
+  executes (J Jmpsr r o) l = steps t room memory (jumps-by c room (linked c room) (own-scalar t room linkRegister (c .pc + 4) (omega arith)) o)
+  executes (J Jret r o) l = steps t room memory (jumps-to c room room (own-none t room) (scalar room t linkRegister))
   executes (J Beqz r o) l =
       steps t room memory
-      (either t room (eqb (scalar room t r) 0) (jumps-by words t room room (own-none t room) pc o) (onwards t room pc (own-none t room)))
+      (either t room (eqb (scalar room t r) 0) (jumps-by c room room (own-none t room) o) (onwards c room (own-none t room)))
   executes (J Bnez r o) l =
       steps t room memory
-      (either t room (not (eqb (scalar room t r) 0)) (jumps-by words t room room (own-none t room) pc o) (onwards t room pc (own-none t room)))
+      (either t room (not (eqb (scalar room t r) 0)) (jumps-by c room room (own-none t room) o) (onwards c room (own-none t room)))
   executes (C Barrier first second) l = record { reasoned = tt; own = own-none t room; bytes = refl; unchanged = refl; unstored = refl }
-  executes (C Readcr first second) l = steps t room memory (reads-control enabled t room pc first second (l .0))
-  executes (C End first second) l = record { reasoned = tt; own = own-scalar t room 63 (pc + 4) (omega arith); bytes = refl; unchanged = tt; unstored = tt }
-  executes (M (Load op) r b o) l = steps t room memory (loads t room memory pc r b o op (l .0))
-  executes (M (Store op) r b o) l = stores t room memory pc r b o op
-  executes (M LoadVector r b o) l = steps t room memory (loads-lanes t room memory pc r b o (l .0))
-  executes (M StoreVector r b o) l = stores-lanes t room memory pc r b o
+  executes (C Readcr first second) l = steps t room memory (reads-control c room first second (l .0))
+  executes (C End first second) l = record { reasoned = tt; own = own-scalar t room programCounterRegister (c .pc + 4) (omega arith); bytes = refl; unchanged = tt; unstored = tt }
+  executes (M (Load op) r b o) l = steps t room memory (loads r b o op (l .0))
+  executes (M (Store op) r b o) l = stores r b o op
+  executes (M LoadVector r b o) l = steps t room memory (loads-lanes r b o (l .0))
+  executes (M StoreVector r b o) l = stores-lanes r b o
 
-  executes-read : (a : Answer Instruction) → ((i : Instruction) → a ≡ given i → Ranged i) → Lawful t room memory (executeRead words enabled t room memory pc a)
+  executes-read : (a : Answer Instruction) → ((i : Instruction) → a ≡ given i → Ranged i) → Lawful t room memory (executeRead c room memory a)
   executes-read (given i) l = executes i (l i refl)
   executes-read (refused number) l = steps t room memory (go (eqb number undefined))
     where
@@ -231,6 +236,6 @@ module _ (words enabled t : ℕ) (room memory : List ℕ) (pc : ℕ) where
       go true = trap-sound t room 3 (omega arith) (omega arith)
       go false = trap-sound t room 6 (omega arith) (omega arith)
 
-  pub executes-word : (w : ℕ) → Lawful t room memory (executeWord words enabled t room memory pc w)
+  pub executes-word : (w : ℕ) → Lawful t room memory (executeWord c room memory w)
   unfolding executeWord InRange
   executes-word w = executes-read (read w) (in-range w)

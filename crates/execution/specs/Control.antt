@@ -7,17 +7,17 @@ use lib.Dec.{eqb}
 use Rattle.answer.specs.Reason.{not-fitted-word}
 use Rattle.execution.specs.Effect.{Step, step, trapped, next, advanced}
 use Rattle.execution.specs.Registers.{scalar, withScalar}
-use Rattle.execution.specs.Types.{ControlOp, Barrier, Readcr, End, Ends, Meets, ControlValue, Known, Unknown}
+use Rattle.execution.specs.Types.{Context, ControlOp, Barrier, Readcr, End, Ends, Meets, ControlValue, Known, Unknown}
 
 -- "0 and 1 give 0, 2 and 3 the thread number, 6 the enabled mask, 9 s63, 14 gives 8; any other number traps with 6."
-unfoldable pub controlRegister : ℕ → ℕ → ℕ → ℕ → Option ℕ
-controlRegister enabled t pc number =
+unfoldable pub controlRegister : Context → ℕ → Option ℕ
+controlRegister c number =
     cond (eqb number 0) (some 0)
     (cond (eqb number 1) (some 0)
-    (cond (eqb number 2) (some t)
-    (cond (eqb number 3) (some t)
-    (cond (eqb number 6) (some enabled)
-    (cond (eqb number 9) (some pc)
+    (cond (eqb number 2) (some (c .thread))
+    (cond (eqb number 3) (some (c .thread))
+    (cond (eqb number 6) (some (c .enabled))
+    (cond (eqb number 9) (some (c .pc))
     (cond (eqb number 14) (some 8)
     none))))))
 
@@ -26,16 +26,16 @@ abbrev pub controlValue : ControlValue → Option ℕ
 controlValue (Known x) = some x
 controlValue Unknown = none
 
-abbrev pub readInto : ℕ → ℕ → List ℕ → ℕ → Option ℕ → Step
-readInto pc t room d none = trapped not-fitted-word room
-readInto pc t room d (some x) = next pc t (withScalar room t d x)
+abbrev pub readInto : Context → List ℕ → ℕ → Option ℕ → Step
+readInto c room d none = trapped not-fitted-word room
+readInto c room d (some x) = next c (withScalar room (c .thread) d x)
 
 -- "1 readcr: into the first, the control register whose number the second register's value is"
-unfoldable pub readControl : ℕ → ℕ → List ℕ → ℕ → ℕ → ℕ → Step
-readControl enabled t room pc first second = readInto pc t room first (controlRegister enabled t pc (scalar room t second))
+unfoldable pub readControl : Context → List ℕ → ℕ → ℕ → Step
+readControl c room first second = readInto c room first (controlRegister c (scalar room (c .thread) second))
 
 -- "0 barrier: id in the first, count less one in the second. .. 2 end: both registers 0; status ended."
-abbrev pub control : ℕ → ℕ → List ℕ → ℕ → ControlOp → ℕ → ℕ → Step
-control enabled t room pc Barrier first second = step (Meets (scalar room t first) (scalar room t second)) room
-control enabled t room pc Readcr first second = readControl enabled t room pc first second
-control enabled t room pc End first second = step Ends (advanced pc t room)
+abbrev pub control : Context → List ℕ → ControlOp → ℕ → ℕ → Step
+control c room Barrier first second = step (Meets (scalar room (c .thread) first) (scalar room (c .thread) second)) room
+control c room Readcr first second = readControl c room first second
+control c room End first second = step Ends (advanced c room)

@@ -2,9 +2,9 @@
 use Prim.Native.Nat.{ℕ, _+_}
 use mathlib.Core.List.{List}
 use Rattle.execution.specs.Registers.{withProgramCounter}
-use Rattle.execution.specs.Types.{Effect, Stays, Traps}
+use Rattle.execution.specs.Types.{Context, Effect, Stays, Traps}
 
--- what the machine record owes it, and the registers
+-- what becomes of the thread, and the registers
 pub record Step : Type 0 where
   pub effect : Effect
   pub registers : List ℕ
@@ -28,9 +28,13 @@ beside s memory = executed (s .effect) (s .registers) memory
 abbrev pub trapped : ℕ → List ℕ → Step
 trapped reason room = step (Traps reason) room
 
--- "Otherwise s63 grows by 4 unless a jump says more.": from `pc`, the word's own address
-abbrev pub advanced : ℕ → ℕ → List ℕ → List ℕ
-advanced pc t room = withProgramCounter room t (pc + 4)
+-- what an issue is told: its thread, the word's own address, the enabled mask, and how many words the program has
+abbrev pub context : ℕ → ℕ → ℕ → ℕ → Context
+context t pc enabled words = record { thread = t; pc = pc; enabled = enabled; words = words }
 
-abbrev pub next : ℕ → ℕ → List ℕ → Step
-next pc t room = step Stays (advanced pc t room)
+-- "Otherwise s63 grows by 4 unless a jump says more."
+abbrev pub advanced : Context → List ℕ → List ℕ
+advanced c room = withProgramCounter room (c .thread) (c .pc + 4)
+
+abbrev pub next : Context → List ℕ → Step
+next c room = step Stays (advanced c room)

@@ -1,10 +1,10 @@
 -- The register file in the lent register room (document 01, "What a machine holds").
-use Prim.Native.Nat.{ℕ, _+_, _*_, _<_}
+use Prim.Native.Nat.{ℕ, _<_}
 use mathlib.Core.List.{List}
 use mathlib.Core.Path.{_≡_}
 use lib.ListN.{length, getD, set}
 use Rattle.answer.specs.Refusal.{roomWords}
-use Rattle.machine.specs.State.{scalarPlace, lanePlace}
+use Rattle.machine.specs.State.{scalarPlace, lanePlace, laneMaskRegister, programCounterRegister}
 use Rattle.vector.specs.Lanes.{tab, lane, blended}
 use Rattle.memory.specs.Operation.{each}
 
@@ -22,17 +22,13 @@ withVector room t i v = each 16 (λ j l. set l (lanePlace t i j) (lane v j)) roo
 
 -- "here s59 is the mask, s63 the program counter, and the rest are plain"
 abbrev pub laneMask : List ℕ → ℕ → ℕ
-laneMask room t = scalar room t 59
+laneMask room t = scalar room t laneMaskRegister
 
 abbrev pub programCounter : List ℕ → ℕ → ℕ
-programCounter room t = scalar room t 63
+programCounter room t = scalar room t programCounterRegister
 
 abbrev pub withProgramCounter : List ℕ → ℕ → ℕ → List ℕ
-withProgramCounter room t address = withScalar room t 63 address
-
--- "1 jmpsr (s62 becomes own address + 4 ..), 2 jret (to s62 ..)": the link register
-abbrev pub linkRegister : ℕ
-linkRegister = 62
+withProgramCounter room t address = withScalar room t programCounterRegister address
 
 -- "a vector destination changes in lanes that are on"
 unfoldable pub withLanesOn : List ℕ → ℕ → ℕ → List ℕ → List ℕ

@@ -1,6 +1,7 @@
--- The types that the code declares, and those of the crates below, under one roof.
+-- The types that the code declares, and those of the crates below, by their names in the definitions.
 pub use Rattle.execution.specs.declared.operand.Source.{Source}
 pub use Rattle.execution.specs.declared.operand.Source.the-variants.{Scalar, Vector}
+pub use Rattle.execution.specs.declared.context.Context.{Context}
 pub use Rattle.execution.specs.declared.effect.Effect.{Effect}
 pub use Rattle.execution.specs.declared.effect.Effect.the-variants.{Stays, Traps, Ends, Meets}
 pub use Rattle.execution.specs.declared.issuing.Issued.{Issued}

@@ -1,4 +1,4 @@
-// What the machine record owes an instruction.
+// What becomes of a thread by an instruction.
 
 pub enum Effect {
     // Nothing: the thread goes on.

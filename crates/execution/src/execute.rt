@@ -7,6 +7,7 @@ ghost use Rattle.execution.specs.Effect.{executed};
 ghost use Rattle.execution.specs.Issue.{execute, executeWord};
 ghost use Rattle.execution.specs.Registers.{InRoom};
 use crate::access;
+use crate::context::Context;
 use crate::control;
 use crate::effect::Effect;
 use crate::immediate;
@@ -16,23 +17,14 @@ use crate::registers;
 use isa::Instruction;
 use isa::Reading;
 
-// The instruction at address pc, in a program of so many words.
-fn instruction(
-    words: usize,
-    enabled: u8,
-    room: &mut [u32],
-    memory: &mut [u8],
-    t: usize,
-    pc: u32,
-    i: Instruction,
-) -> Effect
-    requires { ⌜ InRoom (now room) t × (words ≤ programWords) × (pc < 65536) × Ranged i ⌝ }
-    ensures { λ r. ⌜ executed r (now (room .exit)) (now (memory .exit)) ≡ execute words enabled t (now (room .entry)) (now (memory .entry)) pc i ⌝ }
+fn instruction(context: Context, room: &mut [u32], memory: &mut [u8], i: Instruction) -> Effect
+    requires { ⌜ InRoom (now room) (context .thread) × (context .words ≤ programWords) × (context .pc < 65536) × Ranged i ⌝ }
+    ensures { λ r. ⌜ executed r (now (room .exit)) (now (memory .exit)) ≡ execute context (now (room .entry)) (now (memory .entry)) i ⌝ }
 {
     match i {
         Instruction::R { op, flags, d, a, b } => {
-            operation::operate_r(room, t, op, flags, d, a, b);
-            registers::advance(room, t, pc);
+            operation::operate_r(room, context.thread, op, flags, d, a, b);
+            registers::advance(room, context);
             Effect::Stays
         }
         Instruction::I {
@@ -42,8 +34,8 @@ fn instruction(
             a,
             immediate,
         } => {
-            operation::operate_i(room, t, op, flags, d, a, immediate);
-            registers::advance(room, t, pc);
+            operation::operate_i(room, context.thread, op, flags, d, a, immediate);
+            registers::advance(room, context);
             Effect::Stays
         }
         Instruction::Movei {
@@ -52,48 +44,31 @@ fn instruction(
             d,
             immediate,
         } => {
-            immediate::move_immediate(room, t, op, flag == 1, d, immediate);
-            registers::advance(room, t, pc);
+            immediate::move_immediate(room, context.thread, op, flag == 1, d, immediate);
+            registers::advance(room, context);
             Effect::Stays
         }
         Instruction::J {
             op,
             register,
             offset,
-        } => jump::jump(words, room, t, pc, op, register, offset),
-        Instruction::C { op, first, second } => control::control(
-            enabled,
-            room,
-            t,
-            pc,
-            op,
-            first,
-            second,
-        ),
+        } => jump::jump(context, room, op, register, offset),
+        Instruction::C { op, first, second } => control::control(context, room, op, first, second),
         Instruction::M {
             op,
             register,
             base,
             offset,
-        } => access::access(room, memory, t, pc, op, register, base, offset),
+        } => access::access(context, room, memory, op, register, base, offset),
     }
 }
 
-// The word at address pc.
-pub fn word(
-    words: usize,
-    enabled: u8,
-    room: &mut [u32],
-    memory: &mut [u8],
-    t: usize,
-    pc: u32,
-    w: u32,
-) -> Effect
-    requires { ⌜ InRoom (now room) t × (words ≤ programWords) × (pc < 65536) ⌝ }
-    ensures { λ r. ⌜ executed r (now (room .exit)) (now (memory .exit)) ≡ executeWord words enabled t (now (room .entry)) (now (memory .entry)) pc w ⌝ }
+pub fn word(context: Context, room: &mut [u32], memory: &mut [u8], w: u32) -> Effect
+    requires { ⌜ InRoom (now room) (context .thread) × (context .words ≤ programWords) × (context .pc < 65536) ⌝ }
+    ensures { λ r. ⌜ executed r (now (room .exit)) (now (memory .exit)) ≡ executeWord context (now (room .entry)) (now (memory .entry)) w ⌝ }
 {
     match isa::read_word(w) {
-        Reading::Defined(i) => instruction(words, enabled, room, memory, t, pc, i),
+        Reading::Defined(i) => instruction(context, room, memory, i),
         Reading::Undefined => Effect::Traps(3),
         Reading::NotFitted => Effect::Traps(6),
     }

@@ -7,11 +7,13 @@ ghost use Rattle.machine.specs.Barrier.{meet};
 ghost use Rattle.execution.specs.Issue.{afterMeeting, fits, perform, performSetsStatus, issue, issueSetsStatus, Settles};
 ghost use Rattle.execution.specs.Registers.{InRoom};
 ghost use Rattle.machine.specs.State.{state};
+use crate::context::Context;
 use crate::effect::Effect;
 use crate::execute;
 use crate::jump;
 use crate::registers;
 use machine::Machine;
+use machine::PROGRAM_COUNTER;
 
 // Whether the lengths and the thread are such as a run comes to.
 fn fits(words: usize, room: usize, thread: usize) -> bool
@@ -21,19 +23,19 @@ fn fits(words: usize, room: usize, thread: usize) -> bool
 }
 
 // The thread at a barrier: s63 moves on unless it traps.
-fn meet(registers: &mut [u32], machine: Machine, t: usize, pc: u32, id: u32, second: u32) -> Machine
-    requires { ⌜ InRoom (now registers) t × (pc < 65536) ⌝ }
+fn meet(context: Context, registers: &mut [u32], machine: Machine, id: u32, second: u32) -> Machine
+    requires { ⌜ InRoom (now registers) (context .thread) × (context .pc < 65536) ⌝ }
     ensures { λ r. ⌜
-        (r ≡ meet machine t id second .machine)
-        × (now (registers .exit) ≡ afterMeeting pc t (now (registers .entry)) (meet machine t id second))
+        (r ≡ meet machine (context .thread) id second .machine)
+        × (now (registers .exit) ≡ afterMeeting context (now (registers .entry)) (meet machine (context .thread) id second))
         ⌝ }
 {
-    let met = machine.meet(t, id, second);
+    let met = machine.meet(context.thread, id, second);
     let trapped = met.trapped;
     if trapped {
         return met.machine;
     }
-    registers::advance(registers, t, pc);
+    registers::advance(registers, context);
     met.machine
 }
 
@@ -44,9 +46,9 @@ pub struct Issued {
 }
 
 // What becomes of the record.
-fn settle(registers: &mut [u32], machine: Machine, t: usize, pc: u32, effect: Effect) -> Issued
-    requires { ⌜ InRoom (now registers) t × (pc < 65536) ⌝ }
-    ensures { λ r. ⌜ Settles machine t pc (now (registers .entry)) effect r (now (registers .exit)) ⌝ }
+fn settle(context: Context, registers: &mut [u32], machine: Machine, effect: Effect) -> Issued
+    requires { ⌜ InRoom (now registers) (context .thread) × (context .pc < 65536) ⌝ }
+    ensures { λ r. ⌜ Settles machine context (now (registers .entry)) effect r (now (registers .exit)) ⌝ }
 {
     match effect {
         Effect::Stays => Issued {
@@ -54,15 +56,15 @@ fn settle(registers: &mut [u32], machine: Machine, t: usize, pc: u32, effect: Ef
             changed: false,
         },
         Effect::Traps(reason) => Issued {
-            machine: machine.trap(t, reason),
+            machine: machine.trap(context.thread, reason),
             changed: true,
         },
         Effect::Ends => Issued {
-            machine: machine.end(t),
+            machine: machine.end(context.thread),
             changed: true,
         },
         Effect::Meets(id, second) => Issued {
-            machine: meet(registers, machine, t, pc, id, second),
+            machine: meet(context, registers, machine, id, second),
             changed: true,
         },
     }
@@ -85,7 +87,7 @@ fn perform(
         ⌝ }
 {
     let words = program.len();
-    let pc = registers::scalar(registers, t, registers::PROGRAM_COUNTER);
+    let pc = registers::scalar(registers, t, PROGRAM_COUNTER);
     if !jump::in_program(words, pc) {
         return Issued {
             machine: machine.trap(t, 4),
@@ -93,8 +95,14 @@ fn perform(
         };
     }
     let w = program[(pc / 4) as usize];
-    let effect = execute::word(words, machine.enabled, registers, memory, t, pc, w);
-    settle(registers, machine, t, pc, effect)
+    let context = Context {
+        thread: t,
+        pc,
+        enabled: machine.enabled,
+        words,
+    };
+    let effect = execute::word(context, registers, memory, w);
+    settle(context, registers, machine, effect)
 }
 
 // The same, for any lengths and any thread number.

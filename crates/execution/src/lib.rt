@@ -1,5 +1,6 @@
 // One issue of a thread (document 01, "One issue" and "The words").
 mod access;
+mod context;
 mod control;
 mod effect;
 mod execute;

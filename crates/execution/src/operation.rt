@@ -12,6 +12,7 @@ use isa::BinaryOp;
 use isa::CompareOp;
 use isa::Operation;
 use isa::UnaryOp;
+use machine::LANE_MASK;
 
 fn binary(room: &mut [u32], t: usize, op: BinaryOp, flag: bool, d: u32, a: Source, b: Source)
     requires { ⌜ InRoom (now room) t × (d < 64) × Named a × Named b ⌝ }
@@ -20,7 +21,7 @@ fn binary(room: &mut [u32], t: usize, op: BinaryOp, flag: bool, d: u32, a: Sourc
     if flag {
         let x = operand::lanes(room, t, a);
         let y = operand::lanes(room, t, b);
-        let mask = registers::scalar(room, t, registers::LANE_MASK);
+        let mask = registers::scalar(room, t, LANE_MASK);
         let old = registers::vector(room, t, d);
         registers::set_vector(room, t, d, vector::binary_masked(op, mask, x, y, old));
     } else {
@@ -36,7 +37,7 @@ fn unary(room: &mut [u32], t: usize, op: UnaryOp, flag: bool, d: u32, a: Source)
 {
     if flag {
         let x = operand::lanes(room, t, a);
-        let mask = registers::scalar(room, t, registers::LANE_MASK);
+        let mask = registers::scalar(room, t, LANE_MASK);
         let old = registers::vector(room, t, d);
         registers::set_vector(room, t, d, vector::unary_masked(op, mask, x, old));
     } else {
@@ -58,7 +59,7 @@ fn compare(room: &mut [u32], t: usize, op: CompareOp, d: u32, a: Source, b: Sour
     if operand::is_vector(a) | operand::is_vector(b) {
         let x = operand::lanes(room, t, a);
         let y = operand::lanes(room, t, b);
-        let mask = registers::scalar(room, t, registers::LANE_MASK);
+        let mask = registers::scalar(room, t, LANE_MASK);
         registers::set_scalar(room, t, d, compares::compare_lanes(op, mask, x, y));
     } else {
         let x = operand::word(a);

@@ -3,13 +3,9 @@ ghost use mathlib.Core.Path.{_≡_};
 ghost use Prim.Native.Nat.{_<_};
 ghost use Rattle.execution.specs.Effect.{advanced};
 ghost use Rattle.execution.specs.Registers.{scalar, vector, withScalar, withVector, withLanesOn, InRoom};
-
-// s59, s62 and s63.
-pub const LANE_MASK: u32 = 59;
-
-pub const LINK: u32 = 62;
-
-pub const PROGRAM_COUNTER: u32 = 63;
+use crate::context::Context;
+use machine::LANE_MASK;
+use machine::PROGRAM_COUNTER;
 
 pub fn scalar(room: &[u32], t: usize, i: u32) -> u32
     requires { ⌜ InRoom (now room) t × (i < 64) ⌝ }
@@ -58,9 +54,9 @@ pub fn set_lanes_on(room: &mut [u32], t: usize, i: u32, v: [u32; 16])
 }
 
 // s63 moves on from the word's own address.
-pub fn advance(room: &mut [u32], t: usize, pc: u32)
-    requires { ⌜ InRoom (now room) t × (pc < 65536) ⌝ }
-    ensures { λ _. ⌜ now (room .exit) ≡ advanced pc t (now (room .entry)) ⌝ }
+pub fn advance(room: &mut [u32], context: Context)
+    requires { ⌜ InRoom (now room) (context .thread) × (context .pc < 65536) ⌝ }
+    ensures { λ _. ⌜ now (room .exit) ≡ advanced context (now (room .entry)) ⌝ }
 {
-    set_scalar(room, t, PROGRAM_COUNTER, pc + 4);
+    set_scalar(room, context.thread, PROGRAM_COUNTER, context.pc + 4);
 }

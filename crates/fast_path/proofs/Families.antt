@@ -1,6 +1,6 @@
 -- What a word of scalars alone does: one law a family.
 use Prim.Native.Nat.{ℕ, _%_, _^_}
-use mathlib.Core.Bool.{true, cond}
+use mathlib.Core.Bool.{Bool, true, false, cond}
 use mathlib.Core.List.{List}
 use mathlib.Core.Path.{_≡_, refl, sym, ap, _∙_}
 use native.Mathlib.Omega.{arith}
@@ -10,24 +10,28 @@ use Rattle.alu.specs.Compare.{compare}
 use Rattle.alu.specs.Unary.{unary}
 use Rattle.isa.proofs.Both.{and-both}
 use Rattle.word_layout.specs.Layout.{bits, signed}
-use Rattle.isa.specs.Rule.{flagsUnary, allowsJ, allowsM}
+use Rattle.isa.specs.Rule.{flagsUnary, allowsR, allowsI, allowsJ, allowsM}
 use Rattle.isa.specs.Test.{isIn}
 use Rattle.isa.specs.Table.{rowR, rowMovei, rowJ, rowM}
 use Rattle.execution.specs.Access.{access, loadInto, storeFrom}
-use Rattle.execution.specs.Effect.{executed, beside, advanced}
+use Rattle.execution.specs.Effect.{context, executed, beside, advanced, next}
 use Rattle.execution.specs.Immediate.{replaced, moveImmediate}
 use Rattle.execution.specs.Issue.{executeWord}
-use Rattle.execution.specs.Jump.{jump}
-use Rattle.execution.specs.Operation.{binaryInto, unaryInto, compareInto, operateR, operateI}
+use Rattle.execution.specs.Jump.{jump, jumpBy}
+use Rattle.execution.specs.Operation.{binaryInto, unaryInto, compareInto, operate, operateR, operateI}
 use Rattle.execution.specs.Registers.{scalar}
 use Rattle.memory.specs.Attempt.{Attempt, done, trap}
 use Rattle.memory.specs.Operation.{load, store, Outcome, outcome, changed, scalarPlace, bytesStored}
 use Rattle.memory.specs.Bytes.{withNumber}
 use Rattle.memory.specs.declared.outcome.Access.the-variants.{Done}
 use Rattle.fast_path.proofs.Words.{free-register, plain-R, plain-I, plain-Movei, plain-J, plain-M}
-use Rattle.fast_path.specs.Action.{HasOpcode, ActsOn, ActsAnywhere}
+use Rattle.fast_path.specs.Action.{HasOpcode, Acts, ActsOn, ActsAnywhere}
 use Rattle.fast_path.specs.Types.{
   Write,
+  Next,
+  Jump,
+  Scalar,
+  Operation,
   Binary,
   BinaryOp,
   Unary,
@@ -70,67 +74,98 @@ module _ (t : ℕ) (room : List ℕ) (w : ℕ) where
   abbrev pub offset : ℕ
   offset = signed (2 ^ 17) (bits w 17 0)
 
+  -- a word of R or I on scalars alone: register d gets what the operation makes of operand a and the word y
+  abbrev Operates : Operation → ℕ → Type 0
+  Operates op y = (memory : List ℕ) (pc enabled words : ℕ) →
+      executeWord (context t pc enabled words) room memory w ≡
+      beside (next (context t pc enabled words) (operate room t op false (bits w 23 18) (Scalar operandA) (Scalar y))) memory
+
+  operates-R : (op : Operation) → HasOpcode w 0x00 64 (rowR op .opcode) → w % 64 ≡ 0 → allowsR op 0 (bits w 23 18) (bits w 11 6) ≡ true →
+      Operates op operandB
+  unfolding executeWord operateR
+  operates-R op h low allowed memory pc enabled words = rw (plain-R w op h low allowed)
+
+  operates-I : (op : Operation) → HasOpcode w 0x40 32 (rowR op .opcode) → w % 8 ≡ 0 → allowsI op 0 (bits w 23 18) ≡ true →
+      Operates op immediate
+  unfolding executeWord operateI
+  operates-I op h low allowed memory pc enabled words = rw (plain-I w op h low allowed)
+
+  writes-binary : (op : BinaryOp) (y : ℕ) → Operates (Binary op) y → ActsAnywhere t w room (Write (binary op operandA y))
+  unfolding binaryInto
+  writes-binary op y h = h
+
+  writes-compare : (op : CompareOp) (y : ℕ) → Operates (Compare op) y → ActsAnywhere t w room (Write (cond (compare op operandA y) 1 0))
+  unfolding compareInto
+  writes-compare op y h = h
+
+  writes-unary : (op : UnaryOp) (y : ℕ) → Operates (Unary op) y → ActsAnywhere t w room (Write (unary op operandA))
+  unfolding unaryInto
+  writes-unary op y h = h
+
   pub binary-R : (op : BinaryOp) → HasOpcode w 0x00 64 (rowR (Binary op) .opcode) → w % 64 ≡ 0 →
       ActsAnywhere t w room (Write (binary op operandA operandB))
-  unfolding executeWord operateR binaryInto
-  binary-R op h low memory words enabled pc =
-      rw (plain-R w (Binary op) h low (and-both _ _ (free-register (bits w 23 18) (h .free)) refl))
-
-  pub unary-R : (op : UnaryOp) → HasOpcode w 0x00 64 (rowR (Unary op) .opcode) → w % 4096 ≡ 0 →
-      ActsAnywhere t w room (Write (unary op operandA))
-  unfolding executeWord operateR unaryInto
-  unary-R op h low memory words enabled pc =
-      let b : bits w 11 6 ≡ 0 = omega arith in
-      let low6 : w % 64 ≡ 0 = omega arith in
-      let allowed = and-both _ _ (free-register (bits w 23 18) (h .free)) (eq-eqb (bits w 11 6) 0 b) in
-      rw (plain-R w (Unary op) h low6 (rw (plain-flags op) allowed))
+  binary-R op h low =
+      writes-binary op operandB (operates-R (Binary op) h low (and-both _ _ (free-register (bits w 23 18) (h .free)) refl))
 
   pub compare-R : (op : CompareOp) → HasOpcode w 0x00 64 (rowR (Compare op) .opcode) → w % 64 ≡ 0 →
       ActsAnywhere t w room (Write (cond (compare op operandA operandB) 1 0))
-  unfolding executeWord operateR compareInto
-  compare-R op h low memory words enabled pc =
-      rw (plain-R w (Compare op) h low (and-both _ _ (free-register (bits w 23 18) (h .free)) refl))
+  compare-R op h low =
+      writes-compare op operandB (operates-R (Compare op) h low (and-both _ _ (free-register (bits w 23 18) (h .free)) refl))
+
+  pub unary-R : (op : UnaryOp) → HasOpcode w 0x00 64 (rowR (Unary op) .opcode) → w % 4096 ≡ 0 →
+      ActsAnywhere t w room (Write (unary op operandA))
+  unary-R op h low =
+      let b : bits w 11 6 ≡ 0 = omega arith in
+      let low6 : w % 64 ≡ 0 = omega arith in
+      let allowed = and-both _ _ (free-register (bits w 23 18) (h .free)) (eq-eqb (bits w 11 6) 0 b) in
+      writes-unary op operandB (operates-R (Unary op) h low6 (rw (plain-flags op) allowed))
 
   pub binary-I : (op : BinaryOp) → HasOpcode w 0x40 32 (rowR (Binary op) .opcode) → w % 8 ≡ 0 →
       ActsAnywhere t w room (Write (binary op operandA immediate))
-  unfolding executeWord operateI binaryInto
-  binary-I op h low memory words enabled pc = rw (plain-I w (Binary op) h low (free-register (bits w 23 18) (h .free)))
+  binary-I op h low = writes-binary op immediate (operates-I (Binary op) h low (free-register (bits w 23 18) (h .free)))
 
   pub compare-I : (op : CompareOp) → HasOpcode w 0x40 32 (rowR (Compare op) .opcode) → w % 8 ≡ 0 →
       ActsAnywhere t w room (Write (cond (compare op operandA immediate) 1 0))
-  unfolding executeWord operateI compareInto
-  compare-I op h low memory words enabled pc = rw (plain-I w (Compare op) h low (free-register (bits w 23 18) (h .free)))
+  compare-I op h low = writes-compare op immediate (operates-I (Compare op) h low (free-register (bits w 23 18) (h .free)))
 
   pub moves : (op : MoveiOp) → HasOpcode w 0x60 8 (rowMovei op .opcode) → w % 4 ≡ 0 →
       ActsAnywhere t w room (Write (replaced op (scalar room t (bits w 23 18)) (bits w 17 2)))
   unfolding executeWord moveImmediate
-  moves op h low memory words enabled pc = rw (plain-Movei w op h low)
+  moves op h low memory pc enabled words = rw (plain-Movei w op h low)
 
   pub jumps : (op : JumpOp) → HasOpcode w 0x70 8 (rowJ op .opcode) → allowsJ op (bits w 23 18) offset ≡ true →
-      (memory : List ℕ) (words enabled pc : ℕ) →
-      executeWord words enabled t room memory pc w ≡ beside (jump words t room pc op (bits w 23 18) offset) memory
+      (memory : List ℕ) (pc enabled words : ℕ) →
+      executeWord (context t pc enabled words) room memory w ≡ beside (jump (context t pc enabled words) room op (bits w 23 18) offset) memory
   unfolding executeWord
-  jumps op h allowed memory words enabled pc = rw (plain-J w op h allowed)
+  jumps op h allowed memory pc enabled words = rw (plain-J w op h allowed)
+
+  -- a branch, by its test
+  pub branches : (taken : Bool) (memory : List ℕ) (pc enabled words : ℕ) →
+      executeWord (context t pc enabled words) room memory w ≡
+      beside (cond taken (jumpBy (context t pc enabled words) room room offset) (next (context t pc enabled words) room)) memory →
+      Acts (context t pc enabled words) w room memory (cond taken (Jump offset) Next)
+  branches true memory pc enabled words h = h
+  branches false memory pc enabled words h = h
 
   pub accesses : (op : MemoryOp) → HasOpcode w 0x80 64 (rowM op .opcode) → w % 8 ≡ 0 → allowsM op (bits w 23 18) ≡ true →
-      (memory : List ℕ) (words enabled pc : ℕ) →
-      executeWord words enabled t room memory pc w ≡ access t room memory pc op (bits w 23 18) (bits w 17 12) immediate
+      (memory : List ℕ) (pc enabled words : ℕ) →
+      executeWord (context t pc enabled words) room memory w ≡ access (context t pc enabled words) room memory op (bits w 23 18) (bits w 17 12) immediate
   unfolding executeWord
-  accesses op h low allowed memory words enabled pc = rw (plain-M w op h low allowed)
+  accesses op h low allowed memory pc enabled words = rw (plain-M w op h low allowed)
 
   -- a load that is done
   pub loads : (op : LoadOp) → HasOpcode w 0x80 64 (rowM (Load op) .opcode) → w % 8 ≡ 0 → (memory : List ℕ) (x : ℕ) →
       load op memory operandA immediate ≡ done x → ActsOn t w room memory (Write x)
   unfolding loadInto
-  loads op h low memory x e words enabled pc =
-      accesses (Load op) h low (free-register (bits w 23 18) (h .free)) memory words enabled pc ∙ rw e
+  loads op h low memory x e pc enabled words =
+      accesses (Load op) h low (free-register (bits w 23 18) (h .free)) memory pc enabled words ∙ rw e
 
   -- a store that is done, and one that traps, which changes no byte
   pub stores : (op : StoreOp) → HasOpcode w 0x80 64 (rowM (Store op) .opcode) → w % 8 ≡ 0 → (memory stored : List ℕ) →
-      outcome Done stored ≡ store op memory operandA immediate (scalar room t (bits w 23 18)) → (words enabled pc : ℕ) →
-      executed Stays (advanced pc t room) stored ≡ executeWord words enabled t room memory pc w
+      outcome Done stored ≡ store op memory operandA immediate (scalar room t (bits w 23 18)) → (pc enabled words : ℕ) →
+      executed Stays (advanced (context t pc enabled words) room) stored ≡ executeWord (context t pc enabled words) room memory w
   unfolding storeFrom
-  stores op h low memory stored e words enabled pc = sym (accesses (Store op) h low refl memory words enabled pc ∙ rw (← e))
+  stores op h low memory stored e pc enabled words = sym (accesses (Store op) h low refl memory pc enabled words ∙ rw (← e))
 
 trap-changes : (place : Attempt ℕ) (m : List ℕ) (f : ℕ → List ℕ) (reason : ℕ) (stored : List ℕ) →
     record { answer = trap reason; memory = stored } ≡ changed place m f → stored ≡ m

@@ -11,14 +11,15 @@ use Rattle.isa.proofs.Formats.{is-R, is-I, is-Movei, is-J, is-M}
 use Rattle.isa.proofs.Tables.{finds-R, finds-Movei, finds-J, finds-M}
 use Rattle.word_layout.specs.Layout.{bits, signed}
 use Rattle.isa.specs.Read.{reads, read, readR, asR, readI, asI, readMovei, asMovei, readJ, asJ, readM, asM, listed}
-use Rattle.isa.specs.Rule.{allowsR, allowsI, allowsJ, allowsM}
+use Rattle.isa.specs.Rule.{programCounterRegister as noDestination, allowsR, allowsI, allowsJ, allowsM}
 use Rattle.isa.specs.Table.{rowR, rowMovei, rowJ, rowM}
+use Rattle.machine.specs.State.{programCounterRegister}
 use Rattle.fast_path.specs.Action.{HasOpcode}
 use Rattle.fast_path.specs.Types.{Operation, MoveiOp, JumpOp, MemoryOp, R, I, Movei, J, M}
 
--- a scalar may be written to every register but the last
-pub free-register : (d : ℕ) → d < 63 → not (eqb d 63) ≡ true
-free-register d h = rw (ne-eqb d 63 (λ e. omega arith))
+-- a scalar may be written to every register but the last, which is the program counter: `isa` and `machine` have one number for it
+pub free-register : (d : ℕ) → d < programCounterRegister → not (eqb d noDestination) ≡ true
+free-register d h = rw (ne-eqb d noDestination (λ e. omega arith))
 
 module _ (w : ℕ) where
   pub plain-R : (op : Operation) → HasOpcode w 0x00 64 (rowR op .opcode) → w % 64 ≡ 0 → allowsR op 0 (bits w 23 18) (bits w 11 6) ≡ true →

@@ -4,38 +4,38 @@ use mathlib.Core.Bool.{Bool, true, false}
 use mathlib.Core.List.{List}
 use mathlib.Core.Option.{Option, none, some}
 use mathlib.Core.Path.{_≡_}
-use Rattle.execution.specs.Effect.{Step, step, executed, beside, next}
+use Rattle.execution.specs.Effect.{context, Step, step, executed, beside, next}
 use Rattle.execution.specs.Issue.{executeWord, issue, issueSetsStatus}
 use Rattle.execution.specs.Jump.{jumpBy}
 use Rattle.execution.specs.Registers.{withScalar}
 use Rattle.word_layout.specs.Layout.{field, firstRegister}
-use Rattle.machine.specs.State.{state}
-use Rattle.fast_path.specs.Types.{Action, Write, Next, Jump, Defer, Machine, Stays}
+use Rattle.machine.specs.State.{state, programCounterRegister}
+use Rattle.fast_path.specs.Types.{Action, Write, Next, Jump, Defer, Context, Machine, Stays}
 
 -- a word's top byte says its format and an opcode of it, and its first register is one that a scalar may be written to
 pub record HasOpcode (w format count opcode : ℕ) : Type 0 where
   pub byte : w / 2 ^ 24 ≡ format + opcode
   pub listed : opcode < count
-  pub free : field w firstRegister < 63
+  pub free : field w firstRegister < programCounterRegister
 
--- the step that an action is, of a word at address pc whose destination is d
-abbrev pub stepOf : ℕ → ℕ → ℕ → ℕ → List ℕ → Action → Option Step
-stepOf words t pc d room (Write x) = some (next pc t (withScalar room t d x))
-stepOf words t pc d room Next = some (next pc t room)
-stepOf words t pc d room (Jump offset) = some (jumpBy words t room room pc offset)
-stepOf words t pc d room Defer = none
+-- the step that an action is, of a word whose destination is d
+abbrev pub stepOf : Context → ℕ → List ℕ → Action → Option Step
+stepOf c d room (Write x) = some (next c (withScalar room (c .thread) d x))
+stepOf c d room Next = some (next c room)
+stepOf c d room (Jump offset) = some (jumpBy c room room offset)
+stepOf c d room Defer = none
 
 -- the rules execute a word as this step, if there is one
-abbrev pub Executes : ℕ → ℕ → ℕ → ℕ → ℕ → List ℕ → List ℕ → Option Step → Type 0
-Executes words enabled t pc w room memory (some s) = executeWord words enabled t room memory pc w ≡ beside s memory
-Executes words enabled t pc w room memory none = Unit {0}
+abbrev pub Executes : Context → ℕ → List ℕ → List ℕ → Option Step → Type 0
+Executes c w room memory (some s) = executeWord c room memory w ≡ beside s memory
+Executes c w room memory none = Unit {0}
 
-abbrev pub Acts : ℕ → ℕ → ℕ → ℕ → ℕ → List ℕ → List ℕ → Action → Type 0
-Acts words enabled t pc w room memory a = Executes words enabled t pc w room memory (stepOf words t pc (field w firstRegister) room a)
+abbrev pub Acts : Context → ℕ → List ℕ → List ℕ → Action → Type 0
+Acts c w room memory a = Executes c w room memory (stepOf c (field w firstRegister) room a)
 
 -- the same of a word that reads memory, wherever it stands, and of one on registers alone
 abbrev pub ActsOn : ℕ → ℕ → List ℕ → List ℕ → Action → Type 0
-ActsOn t w room memory a = (words enabled pc : ℕ) → Acts words enabled t pc w room memory a
+ActsOn t w room memory a = (pc enabled words : ℕ) → Acts (context t pc enabled words) w room memory a
 
 abbrev pub ActsAnywhere : ℕ → ℕ → List ℕ → Action → Type 0
 ActsAnywhere t w room a = (memory : List ℕ) → ActsOn t w room memory a
@@ -45,17 +45,21 @@ abbrev pub Goes : Option Step → List ℕ → Bool → List ℕ → Type 0
 Goes s room true after = s ≡ some (step Stays after)
 Goes s room false after = after ≡ room
 
--- an answer true says that the word was executed and the thread goes on; an answer false, that nothing changed
-abbrev pub Tried : ℕ → ℕ → ℕ → ℕ → ℕ → List ℕ → List ℕ → Bool → List ℕ → List ℕ → Type 0
-Tried words enabled t pc w room memory true after stored = executed Stays after stored ≡ executeWord words enabled t room memory pc w
-Tried words enabled t pc w room memory false after stored = (after ≡ room) × (stored ≡ memory)
+-- the same of an action, whatever the enabled mask is
+abbrev pub GoesBy : ℕ → ℕ → ℕ → ℕ → List ℕ → Action → Bool → List ℕ → Type 0
+GoesBy t pc words d room a r after = (enabled : ℕ) → Goes (stepOf (context t pc enabled words) d room a) room r after
 
--- the same of a store, wherever it stands, and of any word
+-- an answer true says that the word was executed and the thread goes on; an answer false, that nothing changed
+abbrev pub Tried : Context → ℕ → List ℕ → List ℕ → Bool → List ℕ → List ℕ → Type 0
+Tried c w room memory true after stored = executed Stays after stored ≡ executeWord c room memory w
+Tried c w room memory false after stored = (after ≡ room) × (stored ≡ memory)
+
+-- the same of a store, whatever the program is, and of any word
 abbrev pub TriedStore : ℕ → ℕ → ℕ → List ℕ → List ℕ → Bool → List ℕ → List ℕ → Type 0
-TriedStore t pc w room memory r after stored = (words enabled : ℕ) → Tried words enabled t pc w room memory r after stored
+TriedStore t pc w room memory r after stored = (enabled words : ℕ) → Tried (context t pc enabled words) w room memory r after stored
 
 abbrev pub TriedWord : ℕ → ℕ → ℕ → ℕ → List ℕ → List ℕ → Bool → List ℕ → List ℕ → Type 0
-TriedWord words t pc w room memory r after stored = (enabled : ℕ) → Tried words enabled t pc w room memory r after stored
+TriedWord t pc words w room memory r after stored = (enabled : ℕ) → Tried (context t pc enabled words) w room memory r after stored
 
 -- an answer true says that the issue was made, whatever the record is, and set no status; an answer false, that nothing changed
 abbrev pub TriedIssue : List ℕ → ℕ → List ℕ → List ℕ → Bool → List ℕ → List ℕ → Type 0

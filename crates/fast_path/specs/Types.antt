@@ -1,4 +1,4 @@
--- The types that the code declares, and those of the crates below, under one roof.
+-- The types that the code declares, and those of the crates below, by their names in the definitions.
 pub use Rattle.fast_path.specs.declared.action.Action.{Action}
 pub use Rattle.fast_path.specs.declared.action.Action.the-variants.{Write, Next, Jump, Defer}
 pub use Rattle.isa.specs.declared.instruction.BinaryOp.{BinaryOp}
@@ -17,5 +17,7 @@ pub use Rattle.isa.specs.declared.instruction.MemoryOp.the-variants.{Load, Stor
 pub use Rattle.isa.specs.declared.instruction.Instruction.{Instruction}
 pub use Rattle.isa.specs.declared.instruction.Instruction.the-variants.{R, I, Movei, J, M}
 pub use Rattle.machine.specs.declared.record.Machine.{Machine}
+pub use Rattle.execution.specs.declared.context.Context.{Context}
+pub use Rattle.execution.specs.declared.operand.Source.the-variants.{Scalar}
 pub use Rattle.execution.specs.declared.effect.Effect.{Effect}
 pub use Rattle.execution.specs.declared.effect.Effect.the-variants.{Stays}

@@ -6,7 +6,7 @@ ghost use Rattle.execution.specs.Immediate.{replaced};
 ghost use Rattle.execution.specs.Registers.{InRoom};
 ghost use Rattle.isa.specs.Table.{rowR, rowMovei, rowJ, rowM};
 ghost use Rattle.fast_path.specs.Action.{HasOpcode, ActsOn, ActsAnywhere};
-ghost use Rattle.fast_path.specs.Types.{Binary, Unary, Compare, Load};
+ghost use Rattle.fast_path.specs.Types.{Next, Jump, Binary, Unary, Compare, Load};
 use crate::action::Action;
 use crate::field;
 use crate::registers;
@@ -106,6 +106,17 @@ pub fn move_immediate(room: &[u32], t: usize, w: u32, op: MoveiOp) -> Action
     Action::Write(replace(op, old, w / 4 % 65536))
 }
 
+// A branch, taken or not.
+fn branch(taken: bool, offset: u32) -> Action
+    ensures { λ r. ⌜ r ≡ cond taken (Jump offset) Next ⌝ }
+{
+    if taken {
+        Action::Jump(offset)
+    } else {
+        Action::Next
+    }
+}
+
 // jmp has register 0. What links or takes its target from a register is left to the slow path.
 pub fn jump(room: &[u32], t: usize, w: u32, op: JumpOp) -> Action
     requires { ⌜ InRoom (now room) t × HasOpcode w 0x70 8 (rowJ op .opcode) ⌝ }
@@ -122,16 +133,8 @@ pub fn jump(room: &[u32], t: usize, w: u32, op: JumpOp) -> Action
         },
         JumpOp::Jmpsr => Action::Defer,
         JumpOp::Jret => Action::Defer,
-        JumpOp::Beqz => if x == 0 {
-            Action::Jump(offset)
-        } else {
-            Action::Next
-        },
-        JumpOp::Bnez => if x != 0 {
-            Action::Jump(offset)
-        } else {
-            Action::Next
-        },
+        JumpOp::Beqz => branch(x == 0, offset),
+        JumpOp::Bnez => branch(x != 0, offset),
     }
 }
 

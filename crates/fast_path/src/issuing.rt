@@ -8,7 +8,7 @@ ghost use Rattle.execution.specs.Jump.{inProgram};
 ghost use Rattle.execution.specs.Registers.{InRoom};
 ghost use Rattle.isa.specs.Table.{rowM};
 ghost use Rattle.machine.specs.State.{state};
-ghost use Rattle.fast_path.specs.Action.{HasOpcode, stepOf, Goes, TriedStore, TriedWord, TriedIssue};
+ghost use Rattle.fast_path.specs.Action.{HasOpcode, GoesBy, TriedStore, TriedWord, TriedIssue};
 ghost use Rattle.fast_path.specs.Types.{Jump, Store};
 use crate::action::Action;
 use crate::field;
@@ -17,6 +17,7 @@ use crate::table;
 use execution::Issued;
 use isa::StoreOp;
 use machine::Machine;
+use machine::PROGRAM_COUNTER;
 use memory::Access;
 
 // Whether the lengths and the thread are such as a run comes to.
@@ -37,11 +38,11 @@ fn in_program(words: usize, address: u32) -> bool
 // The sum wraps: a negative target comes out past the end of every program.
 fn jump(words: usize, room: &mut [u32], t: usize, pc: u32, offset: u32) -> bool
     requires { ⌜ InRoom (now room) t × (words ≤ programWords) × (pc < 65536) ⌝ }
-    ensures { λ r. ⌜ Goes (stepOf words t pc 0 (now (room .entry)) (Jump offset)) (now (room .entry)) r (now (room .exit)) ⌝ }
+    ensures { λ r. ⌜ GoesBy t pc words 0 (now (room .entry)) (Jump offset) r (now (room .exit)) ⌝ }
 {
     let target = std::num::wrapping_add_u32(pc, offset);
     if in_program(words, target) {
-        registers::set_scalar(room, t, registers::PROGRAM_COUNTER, target);
+        registers::set_scalar(room, t, PROGRAM_COUNTER, target);
         return true;
     }
     false
@@ -50,7 +51,7 @@ fn jump(words: usize, room: &mut [u32], t: usize, pc: u32, offset: u32) -> bool
 // The action of a word at address pc whose destination is d.
 fn act(words: usize, room: &mut [u32], t: usize, pc: u32, d: usize, action: Action) -> bool
     requires { ⌜ InRoom (now room) t × (words ≤ programWords) × (pc < 65536) × (d < 64) ⌝ }
-    ensures { λ r. ⌜ Goes (stepOf words t pc d (now (room .entry)) action) (now (room .entry)) r (now (room .exit)) ⌝ }
+    ensures { λ r. ⌜ GoesBy t pc words d (now (room .entry)) action r (now (room .exit)) ⌝ }
 {
     match action {
         Action::Write(x) => {
@@ -95,11 +96,11 @@ fn store(room: &mut [u32], memory: &mut [u8], t: usize, pc: u32, w: u32, op: Sto
 fn word(words: usize, room: &mut [u32], memory: &mut [u8], t: usize, pc: u32, w: u32) -> bool
     requires { ⌜ InRoom (now room) t × (words ≤ programWords) × (pc < 65536) ⌝ }
     ensures { λ r. ⌜
-        TriedWord words t pc w (now (room .entry)) (now (memory .entry)) r (now (room .exit)) (now (memory .exit))
+        TriedWord t pc words w (now (room .entry)) (now (memory .entry)) r (now (room .exit)) (now (memory .exit))
         ⌝ }
 {
     let d = registers::register(w);
-    if d == 63 {
+    if d == PROGRAM_COUNTER as usize {
         return false;
     }
     let top = (w / 0x1000000) as u8;
@@ -125,7 +126,7 @@ fn try_word(program: &[u32], room: &mut [u32], memory: &mut [u8], thread: usize)
     if !fits(words, room.len(), thread) {
         return false;
     }
-    let pc = registers::scalar(room, thread, registers::PROGRAM_COUNTER);
+    let pc = registers::scalar(room, thread, PROGRAM_COUNTER);
     if !in_program(words, pc) {
         return false;
     }

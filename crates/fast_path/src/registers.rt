@@ -1,11 +1,9 @@
 // Scalar registers, by their numbers and by a word's fields.
 ghost use mathlib.Core.Path.{_≡_};
 ghost use Prim.Native.Nat.{_+_, _<_};
-ghost use Rattle.execution.specs.Effect.{advanced};
-ghost use Rattle.execution.specs.Registers.{scalar, withScalar, InRoom};
+ghost use Rattle.execution.specs.Registers.{scalar, withScalar, withProgramCounter, InRoom};
 ghost use Rattle.word_layout.specs.Layout.{field, firstRegister, secondRegister, thirdRegister};
-
-pub const PROGRAM_COUNTER: u32 = 63;
+use machine::PROGRAM_COUNTER;
 
 pub fn scalar(room: &[u32], t: usize, i: u32) -> u32
     requires { ⌜ InRoom (now room) t × (i < 64) ⌝ }
@@ -53,7 +51,7 @@ pub fn operand_b(room: &[u32], t: usize, w: u32) -> u32
 // s63 moves on from the word's own address.
 pub fn advance(room: &mut [u32], t: usize, pc: u32)
     requires { ⌜ InRoom (now room) t × (pc < 65536) ⌝ }
-    ensures { λ _. ⌜ now (room .exit) ≡ advanced pc t (now (room .entry)) ⌝ }
+    ensures { λ _. ⌜ now (room .exit) ≡ withProgramCounter (now (room .entry)) t (pc + 4) ⌝ }
 {
     set_scalar(room, t, PROGRAM_COUNTER, pc + 4);
 }

@@ -3,6 +3,7 @@ ghost use mathlib.Core.Path.{_≡_};
 ghost use Prim.Native.Nat.{_/_, _^_, _<_};
 ghost use Rattle.execution.specs.Registers.{InRoom};
 ghost use Rattle.word_layout.specs.Layout.{field, firstRegister};
+ghost use Rattle.machine.specs.State.{programCounterRegister};
 ghost use Rattle.fast_path.specs.Action.{ActsOn, ActsAnywhere};
 use crate::action::Action;
 use crate::family::binary_i;
@@ -22,7 +23,7 @@ use isa::UnaryOp;
 
 // R words.
 fn r_words(room: &[u32], t: usize, w: u32, top: u8) -> Action
-    requires { ⌜ InRoom (now room) t × (w / 2 ^ 24 ≡ top) × (field w firstRegister < 63) ⌝ }
+    requires { ⌜ InRoom (now room) t × (w / 2 ^ 24 ≡ top) × (field w firstRegister < programCounterRegister) ⌝ }
     ensures { λ r. ⌜ ActsAnywhere t w (now (room .entry)) r ⌝ }
 {
     match top {
@@ -58,7 +59,7 @@ fn r_words(room: &[u32], t: usize, w: u32, top: u8) -> Action
 
 // I words.
 fn i_words(room: &[u32], t: usize, w: u32, top: u8) -> Action
-    requires { ⌜ InRoom (now room) t × (w / 2 ^ 24 ≡ top) × (field w firstRegister < 63) ⌝ }
+    requires { ⌜ InRoom (now room) t × (w / 2 ^ 24 ≡ top) × (field w firstRegister < programCounterRegister) ⌝ }
     ensures { λ r. ⌜ ActsAnywhere t w (now (room .entry)) r ⌝ }
 {
     match top {
@@ -89,7 +90,7 @@ fn i_words(room: &[u32], t: usize, w: u32, top: u8) -> Action
 
 // MOVEI and J words.
 fn moves_and_jumps(room: &[u32], t: usize, w: u32, top: u8) -> Action
-    requires { ⌜ InRoom (now room) t × (w / 2 ^ 24 ≡ top) × (field w firstRegister < 63) ⌝ }
+    requires { ⌜ InRoom (now room) t × (w / 2 ^ 24 ≡ top) × (field w firstRegister < programCounterRegister) ⌝ }
     ensures { λ r. ⌜ ActsAnywhere t w (now (room .entry)) r ⌝ }
 {
     match top {
@@ -105,7 +106,7 @@ fn moves_and_jumps(room: &[u32], t: usize, w: u32, top: u8) -> Action
 
 // Loads, and the words of the other formats.
 pub fn action(room: &[u32], memory: &[u8], t: usize, w: u32, top: u8) -> Action
-    requires { ⌜ InRoom (now room) t × (w / 2 ^ 24 ≡ top) × (field w firstRegister < 63) ⌝ }
+    requires { ⌜ InRoom (now room) t × (w / 2 ^ 24 ≡ top) × (field w firstRegister < programCounterRegister) ⌝ }
     ensures { λ r. ⌜ ActsOn t w (now (room .entry)) (now (memory .entry)) r ⌝ }
 {
     match top {

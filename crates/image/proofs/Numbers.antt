@@ -1,6 +1,6 @@
 -- Entries and their numbers are inverse.
 use Prim.Native.Nat.{ℕ}
-use mathlib.Core.Bool.{Bool, true, false, cond, _&&_}
+use mathlib.Core.Bool.{Bool, true, false, cond, _&&_, and-eq-true-iff}
 use mathlib.Core.Option.{Option, none, some}
 use mathlib.Core.Path.{_≡_, refl, sym, ap, _∙_}
 use native.Mathlib.Omega.{arith}
@@ -11,7 +11,6 @@ use Rattle.answer.specs.Answer.{given, refused}
 use Rattle.image.specs.Fields.{statusFields, fieldsOf, numbered, sameFields, accepted, threadOf}
 use Rattle.image.specs.Types.{Status, Idle, Running, Ended, Trapped, Waiting, Fields}
 use Rattle.machine.specs.Machine.{zeroThread, withStatus}
-use Rattle.machine.proofs.Tests.{both}
 
 -- the numbers of a status name it
 named : (s : Status) → numbered (statusFields s) ≡ some s
@@ -26,9 +25,9 @@ same-self f = rw (eq-eqb (f .status) (f .status) refl, eq-eqb (f .reason) (f .re
 
 same-fields : (f g : Fields) → sameFields f g ≡ true → f ≡ g
 same-fields f g h =
-    let a = both (eqb (f .status) (g .status) && eqb (f .reason) (g .reason) && eqb (f .id) (g .id)) (eqb (f .count) (g .count)) h in
-    let b = both (eqb (f .status) (g .status) && eqb (f .reason) (g .reason)) (eqb (f .id) (g .id)) (a .0) in
-    let c = both (eqb (f .status) (g .status)) (eqb (f .reason) (g .reason)) (b .0) in
+    let a = and-eq-true-iff (eqb (f .status) (g .status) && eqb (f .reason) (g .reason) && eqb (f .id) (g .id)) (eqb (f .count) (g .count)) .0 h in
+    let b = and-eq-true-iff (eqb (f .status) (g .status) && eqb (f .reason) (g .reason)) (eqb (f .id) (g .id)) .0 (a .0) in
+    let c = and-eq-true-iff (eqb (f .status) (g .status)) (eqb (f .reason) (g .reason)) .0 (b .0) in
     let status = eqb-true (f .status) (g .status) (c .0) in
     let reason = eqb-true (f .reason) (g .reason) (c .1) in
     let id = eqb-true (f .id) (g .id) (b .1) in

@@ -1,6 +1,6 @@
 -- How many the bytes of a machine record are, that what is accepted of them is well formed, and its image opens with them.
 use Prim.Native.Nat.{ℕ}
-use mathlib.Core.Bool.{true}
+use mathlib.Core.Bool.{true, and-eq-true-iff}
 use mathlib.Core.List.{List, [], _++_}
 use mathlib.Core.Option.{none}
 use mathlib.Core.Path.{_≡_, ap, _∙_}
@@ -9,7 +9,6 @@ use lib.ListN.{length, length-append}
 use lib.Seq.{take-all, take-append-le}
 use Rattle.answer.specs.Refusal.{refusedOr}
 use Rattle.machine.specs.State.{State, state}
-use Rattle.machine.proofs.Tests.{both}
 use Rattle.machine.specs.Machine.{zeroed}
 use Rattle.machine.specs.WellFormed.{wellFormed}
 use Rattle.image_layout.proofs.Rows.{section-length}
@@ -49,7 +48,7 @@ module _ (l : List ℕ) (h : openingNumber l ≡ none) where
 
   pub opening-well-formed : wellFormed (machineIn noBlocks l) ≡ true
   unfolding openingNumber contentNumber recordIn
-  opening-well-formed = both (allBelow 8 (λ t. isEntry (entryIn noBlocks l t))) (wellFormed (machineIn noBlocks l)) (content-good (headsUpTo recordKinds noBlocks l) (recordIn noBlocks l) h .1) .1
+  opening-well-formed = and-eq-true-iff (allBelow 8 (λ t. isEntry (entryIn noBlocks l t))) (wellFormed (machineIn noBlocks l)) .0 (content-good (headsUpTo recordKinds noBlocks l) (recordIn noBlocks l) h .1) .1
 
 -- and an image opens with them
 pub opens-with : OpensWith

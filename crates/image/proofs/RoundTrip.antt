@@ -1,6 +1,6 @@
 -- Writing then reading, reading then writing, and which images are accepted.
 use Prim.Native.Nat.{ℕ, _/_}
-use mathlib.Core.Bool.{true}
+use mathlib.Core.Bool.{true, and-eq-true-iff}
 use mathlib.Core.List.{List}
 use mathlib.Core.Option.{Option, none, some}
 use mathlib.Core.Path.{_≡_, refl, sym, ap, _∙_}
@@ -10,7 +10,6 @@ use lib.ListN.{length}
 use Rattle.answer.specs.Answer.{Answer, given, refused}
 use Rattle.answer.specs.Refusal.{fixedPart, imageLength, sizesNumber, refusedOr}
 use Rattle.machine.specs.State.{State, state}
-use Rattle.machine.proofs.Tests.{both}
 use Rattle.machine.specs.Machine.{zeroed}
 use Rattle.machine.specs.WellFormed.{wellFormed}
 use Rattle.image_layout.specs.Join.{allBelow}
@@ -75,7 +74,7 @@ module _ (l registers memory : List ℕ) (bytes : Bytes l) (h : readRefusal l re
 
   entries : (allBelow 8 (λ t. isEntry (entryIn (shapeOf memory) l t)) ≡ true) × (wellFormed (machineIn (shapeOf memory) l) ≡ true)
   unfolding recordIn
-  entries = both (allBelow 8 (λ t. isEntry (entryIn (shapeOf memory) l t))) (wellFormed (machineIn (shapeOf memory) l)) (good .1)
+  entries = and-eq-true-iff (allBelow 8 (λ t. isEntry (entryIn (shapeOf memory) l t))) (wellFormed (machineIn (shapeOf memory) l)) .0 (good .1)
 
   same-length : length (s .memory) ≡ length memory
   same-length = memory-length (shapeOf memory) l (le-of-eq (long (length registers) (length memory) (length l) sizes)) ∙ lengths registers memory (length l) sizes .whole

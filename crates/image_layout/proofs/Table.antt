@@ -1,6 +1,6 @@
 -- The two laws of the table, over any row: what was laid out is read at its fixed places, and what is read there lays out to the same bytes.
 use Prim.Native.Nat.{ℕ, zero, suc, _+_, _*_, _≤_, _<_}
-use mathlib.Core.Bool.{true}
+use mathlib.Core.Bool.{true, and-eq-true-iff}
 use mathlib.Core.List.{List, [], _∷_, _++_}
 use mathlib.Core.Path.{_≡_, refl, sym, ap, _∙_}
 use native.Mathlib.Numerals.{add-one}
@@ -15,7 +15,7 @@ use Rattle.image_layout.specs.Types.{Kind, Shape, Row}
 use Rattle.image_layout.proofs.Join.{fits-in}
 use Rattle.image_layout.proofs.Parts.{cut-take, joined-same, piece, pieces, piece-even, pieces-even}
 use Rattle.image_layout.proofs.Rows.{head-length, record-length, record-room, section-length, sectionAt, start-room, kind-order, order-few}
-use Rattle.image_layout.proofs.Tests.{both, two, all-intro, all-elim}
+use Rattle.image_layout.proofs.Tests.{two, all-intro, all-elim}
 
 -- A test at a place.
 
@@ -41,7 +41,7 @@ pub stands-means : (h l : List ℕ) (p : ℕ) → p + length h ≤ length l → 
 unfolding standsAt
 stands-means [] l p room e = refl
 stands-means (x ∷ h) l p room e =
-    let b = both (eqb (getD l p 0) x) (standsAt h l (p + 1)) e in
+    let b = and-eq-true-iff (eqb (getD l p 0) x) (standsAt h l (p + 1)) .0 e in
     rw (drop-one l p (omega arith), eqb-true (getD l p 0) x (b .0), ← add-one p) (ap (λ z. x ∷ z) (stands-means h l (p + 1) (omega arith) (b .1)))
 
 -- What was laid out is read.

@@ -1,16 +1,12 @@
 -- Laws of tests taken together, and of the tests of each number below one.
 use Prim.Native.Nat.{ℕ, zero, suc, _+_, _≤_, _<_}
-use mathlib.Core.Bool.{Bool, true, false, _&&_, false≢true}
+use mathlib.Core.Bool.{Bool, true, false, _&&_, false≢true, and-eq-true-iff}
 use mathlib.Core.Logic.{_⊎_, inl, inr, ⊎-elim}
 use mathlib.Core.Path.{_≡_, refl, sym, _∙_}
 use native.Mathlib.Decide.{ℕ-discrete}
 use native.Mathlib.Numerals.{add-one}
 use native.Mathlib.Omega.{arith}
 use Rattle.image_layout.specs.Join.{allBelow}
-
-pub both : (a b : Bool) → (a && b) ≡ true → (a ≡ true) × (b ≡ true)
-both true b h = (refl, h)
-both false b h = absurd (false≢true h)
 
 pub at-or-below : (i n : ℕ) → i < suc n → (i ≡ n) ⊎ (i < n)
 at-or-below i n h = go (ℕ-discrete i n)
@@ -35,7 +31,8 @@ pub all-elim : (n : ℕ) (p : ℕ → Bool) → allBelow n p ≡ true → (i : �
 unfolding allBelow
 all-elim zero p h i l = absurd (omega arith)
 all-elim (suc n) p h i l =
-    ⊎-elim (λ e. rw e (both (allBelow n p) (p n) h .1)) (λ b. all-elim n p (both (allBelow n p) (p n) h .0) i b) (at-or-below i n l)
+    let k = and-eq-true-iff (allBelow n p) (p n) .0 h in
+    ⊎-elim (λ e. rw e (k .1)) (λ b. all-elim n p (k .0) i b) (at-or-below i n l)
 
 -- a loop that stops at the first that fails
 

@@ -5,7 +5,7 @@ use mathlib.Core.Path.{_≡_, refl, ap}
 use native.Mathlib.Numerals.{add-one}
 use native.Mathlib.Omega.{arith}
 use lib.ListN.{length, set}
-use Rattle.machine.specs.State.{scalarPlace}
+use Rattle.machine.specs.State.{scalarPlace, laneMaskRegister}
 use Rattle.interpreter.specs.Start.{zeroes, withMasks}
 
 -- the room with its first i words 0
@@ -31,6 +31,6 @@ cleared-all [] = refl
 cleared-all (word ∷ room) = ap {B = List ℕ} (λ r. 0 ∷ r) (cleared-all room)
 
 -- one thread's s59 more
-pub masks-more : (room : List ℕ) (t : ℕ) → set (withMasks t room) (scalarPlace t 59) 0xFFFF ≡ withMasks (t + 1) room
+pub masks-more : (room : List ℕ) (t : ℕ) → set (withMasks t room) (scalarPlace t laneMaskRegister) 0xFFFF ≡ withMasks (t + 1) room
 unfolding withMasks
 masks-more room t = rw add-one

@@ -13,7 +13,7 @@ use Rattle.machine.specs.Machine.{zeroed, start as startRecord}
 use Rattle.interpreter.specs.Claims.{Starts, StartRooms}
 use Rattle.answer.specs.Refusal.{refusedOr}
 use Rattle.interpreter.specs.Refusal.{startNumber}
-use Rattle.machine.specs.State.{scalarPlace}
+use Rattle.machine.specs.State.{scalarPlace, laneMaskRegister}
 use Rattle.interpreter.specs.Start.{Beginning, zeroes, withMasks, start}
 use Rattle.interpreter.proofs.Refusals.{start-taken, start-accepted}
 
@@ -41,24 +41,24 @@ module _ (room : List ℕ) where
   masks-size : (n : ℕ) → length (withMasks n room) ≡ length room
   unfolding withMasks
   masks-size zero = refl
-  masks-size (suc n) = length-set (withMasks n room) (scalarPlace n 59) 0xFFFF ∙ masks-size n
+  masks-size (suc n) = length-set (withMasks n room) (scalarPlace n laneMaskRegister) 0xFFFF ∙ masks-size n
 
-  masks-at : (n t : ℕ) → t < n → 64 * n ≤ length room → getD (withMasks n room) (scalarPlace t 59) 0 ≡ 0xFFFF
+  masks-at : (n t : ℕ) → t < n → 64 * n ≤ length room → getD (withMasks n room) (scalarPlace t laneMaskRegister) 0 ≡ 0xFFFF
   unfolding withMasks
   masks-at zero t l h = absurd (omega arith)
   masks-at (suc n) t l h = go (ℕ-discrete t n) (λ k. masks-at n t k (omega arith))
     where
-      go : Dec (t ≡ n) → (t < n → getD (withMasks n room) (scalarPlace t 59) 0 ≡ 0xFFFF)
-          → getD (set (withMasks n room) (scalarPlace n 59) 0xFFFF) (scalarPlace t 59) 0 ≡ 0xFFFF
-      go (yes e) rest = rw e (getD-set-same (withMasks n room) (scalarPlace n 59) 0xFFFF 0 (omega (arith, masks-size n)))
+      go : Dec (t ≡ n) → (t < n → getD (withMasks n room) (scalarPlace t laneMaskRegister) 0 ≡ 0xFFFF)
+          → getD (set (withMasks n room) (scalarPlace n laneMaskRegister) 0xFFFF) (scalarPlace t laneMaskRegister) 0 ≡ 0xFFFF
+      go (yes e) rest = rw e (getD-set-same (withMasks n room) (scalarPlace n laneMaskRegister) 0xFFFF 0 (omega (arith, masks-size n)))
       go (no e) rest =
-          getD-set-other (withMasks n room) (scalarPlace n 59) (scalarPlace t 59) 0xFFFF 0 (λ f. e (omega arith)) ∙ rest (omega (arith, e))
+          getD-set-other (withMasks n room) (scalarPlace n laneMaskRegister) (scalarPlace t laneMaskRegister) 0xFFFF 0 (λ f. e (omega arith)) ∙ rest (omega (arith, e))
 
-  masks-other : (n i : ℕ) → ((t : ℕ) → t < n → i ≡ scalarPlace t 59 → ⊥) → getD (withMasks n room) i 0 ≡ getD room i 0
+  masks-other : (n i : ℕ) → ((t : ℕ) → t < n → i ≡ scalarPlace t laneMaskRegister → ⊥) → getD (withMasks n room) i 0 ≡ getD room i 0
   unfolding withMasks
   masks-other zero i h = refl
   masks-other (suc n) i h =
-      getD-set-other (withMasks n room) (scalarPlace n 59) i 0xFFFF 0 (h n (omega arith)) ∙ masks-other n i (λ t l. h t (omega arith))
+      getD-set-other (withMasks n room) (scalarPlace n laneMaskRegister) i 0xFFFF 0 (h n (omega arith)) ∙ masks-other n i (λ t l. h t (omega arith))
 
 pub start-rooms : StartRooms
 start-rooms mask room h =
@@ -69,6 +69,6 @@ start-rooms mask room h =
     let f : start mask room .registers ≡ withMasks 8 r = sym (ap (λ (x : Beginning). x .registers) (start-accepted mask room e)) in
     record {
       size = ap length f ∙ (masks-size r 8 ∙ size);
-      masks = λ t l. ap (λ x. getD x (scalarPlace t 59) 0) f ∙ masks-at r 8 t l (omega arith);
+      masks = λ t l. ap (λ x. getD x (scalarPlace t laneMaskRegister) 0) f ∙ masks-at r 8 t l (omega arith);
       zeros = λ i g. ap (λ x. getD x i 0) f ∙ (masks-other r 8 i g ∙ List·getD-map (λ word. 0) room i 0);
     }

@@ -8,14 +8,13 @@ use mathlib.Core.Path.{_≡_}
 use lib.ListN.{length, getD}
 use Rattle.answer.specs.Answer.{Answer, given, refused}
 use Rattle.answer.specs.Refusal.{roomWords}
-use Rattle.machine.specs.State.{State}
+use Rattle.machine.specs.State.{State, scalarPlace, laneMaskRegister}
 use Rattle.machine.specs.Scheduler.{runs, waits}
 use Rattle.machine.specs.WellFormed.{wellFormed}
 use Rattle.interpreter.specs.Answer.{Ending, stopped, stuck, spent}
 use Rattle.interpreter.specs.Choosing.{Issue}
 use Rattle.interpreter.specs.Demand.{Fair, enabledThreads}
 use Rattle.interpreter.specs.Run.{number, runIssues, runReached, runAnswer}
-use Rattle.machine.specs.State.{scalarPlace}
 use Rattle.interpreter.specs.Start.{start}
 use Rattle.interpreter.specs.Types.{Machine}
 
@@ -29,8 +28,8 @@ Starts = (mask : ℕ) (room : List ℕ) → start mask room .answer ≡ given tt
 -- and a register room in which every s59 is 0xFFFF, and every other word 0
 pub record StartRoom (mask : ℕ) (room : List ℕ) : Type 0 where
   pub size : length (start mask room .registers) ≡ roomWords
-  pub masks : (t : ℕ) → t < 8 → getD (start mask room .registers) (scalarPlace t 59) 0 ≡ 0xFFFF
-  pub zeros : (i : ℕ) → ((t : ℕ) → t < 8 → i ≡ scalarPlace t 59 → ⊥) → getD (start mask room .registers) i 0 ≡ 0
+  pub masks : (t : ℕ) → t < 8 → getD (start mask room .registers) (scalarPlace t laneMaskRegister) 0 ≡ 0xFFFF
+  pub zeros : (i : ℕ) → ((t : ℕ) → t < 8 → i ≡ scalarPlace t laneMaskRegister → ⊥) → getD (start mask room .registers) i 0 ≡ 0
 
 abbrev pub StartRooms : Type 0
 StartRooms = (mask : ℕ) (room : List ℕ) → start mask room .answer ≡ given tt → StartRoom mask room

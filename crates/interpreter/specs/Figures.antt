@@ -3,6 +3,7 @@ use Prim.Native.Nat.{ℕ}
 use mathlib.Core.List.{List, [], _∷_}
 use mathlib.Core.Path.{_≡_}
 use Rattle.answer.specs.Answer.{Answer, given, refused, undefined, not-fitted}
+use Rattle.execution.specs.Effect.{context}
 use Rattle.execution.specs.Issue.{execute, executeWord}
 use Rattle.execution.specs.Registers.{scalar}
 use Rattle.isa.specs.Read.{read}
@@ -50,10 +51,10 @@ figures =
 
 -- scalar register i of thread 0 after an instruction at address 0, by the rules of one issue
 abbrev afterWord : List ℕ → ℕ → ℕ → ℕ
-afterWord registers word i = scalar (executeWord 1 1 0 registers [] 0 word .registers) 0 i
+afterWord registers word i = scalar (executeWord (context 0 0 1 1) registers [] word .registers) 0 i
 
 abbrev afterInstruction : List ℕ → Instruction → ℕ → ℕ
-afterInstruction registers instruction i = scalar (execute 1 1 0 registers [] 0 instruction .registers) 0 i
+afterInstruction registers instruction i = scalar (execute (context 0 0 1 1) registers [] instruction .registers) 0 i
 
 abbrev pub Holds : Figure → Type 0
 Holds (reads word answer) = read word ≡ answer

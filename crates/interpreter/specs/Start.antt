@@ -5,6 +5,7 @@ use lib.ListN.{length}
 use Rattle.answer.specs.Answer.{Answer, given, refused}
 use Rattle.execution.specs.Registers.{withScalar}
 use Rattle.machine.specs.Machine.{zeroed, start as startRecord}
+use Rattle.machine.specs.State.{laneMaskRegister}
 use Rattle.interpreter.specs.Answer.{startAnswered}
 use Rattle.answer.specs.Refusal.{refusedOr}
 use Rattle.interpreter.specs.Refusal.{startNumber}
@@ -17,7 +18,7 @@ zeroes room = map (λ word. 0) room
 -- "sets every s59 to 0xFFFF": of the first n threads
 unfoldable pub withMasks : ℕ → List ℕ → List ℕ
 withMasks zero room = room
-withMasks (suc t) room = withScalar (withMasks t room) t 59 0xFFFF
+withMasks (suc t) room = withScalar (withMasks t room) t laneMaskRegister 0xFFFF
 
 -- what a start hands back and leaves
 pub record Beginning : Type 0 where

@@ -1,4 +1,4 @@
--- The types that the code declares, and those of the crates below, under one roof.
+-- The types that the code declares, and those of the crates below, by their names in the definitions.
 pub use Rattle.interpreter.specs.declared.outcome.StartAnswer.{StartAnswer}
 pub use Rattle.interpreter.specs.declared.outcome.StartAnswer.the-variants.{Started, Refused as StartRefused}
 pub use Rattle.interpreter.specs.declared.outcome.Start.{Start}

@@ -10,6 +10,7 @@ use crate::outcome::StartAnswer;
 use answer::Verdict;
 use answer::bad_mask;
 use answer::bad_registers;
+use machine::LANE_MASK;
 use machine::Machine;
 
 // The number that a start is refused with, if any: of its mask, and of the words of its register room.
@@ -42,7 +43,7 @@ fn set_masks(registers: &mut [u32])
     ensures { λ _. ⌜ now (registers .exit) ≡ withMasks 8 (now (registers .entry)) ⌝ }
 {
     for thread in 0..8usize {
-        registers[64 * thread + 59] = 0xFFFF;
+        registers[64 * thread + LANE_MASK as usize] = 0xFFFF;
     }
 }
 

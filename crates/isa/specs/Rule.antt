@@ -31,9 +31,13 @@ flagsI (Compare op) = 0b00 ∷ 0b01 ∷ []
 flagsI Shuffle = []
 flagsI GetLane = 0b01 ∷ []
 
+-- "s63 the program counter": named here too, since this crate does not see `machine`, where the register file is
+abbrev pub programCounterRegister : ℕ
+programCounterRegister = 63
+
 -- "A scalar destination may not be 63."
 abbrev pub destination : Bool → ℕ → Bool
-destination vector d = vector || not (eqb d 63)
+destination vector d = vector || not (eqb d programCounterRegister)
 
 -- "12 clz, 13 ctz .., 32 move, 43 sext8, 44 sext16: b field 0."
 abbrev pub operandB : Operation → ℕ → Bool

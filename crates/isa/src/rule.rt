@@ -51,10 +51,13 @@ fn is_in(set: u32, flags: u32) -> bool
     (flags < 8) & ((set >> (flags % 8)) % 2 == 1)
 }
 
+// The program counter.
+const PROGRAM_COUNTER: u32 = 63;
+
 fn is_destination(vector: bool, d: u32) -> bool
     ensures { λ r. ⌜ r ≡ destination vector d ⌝ }
 {
-    vector | (d != 63)
+    vector | (d != PROGRAM_COUNTER)
 }
 
 fn operand_b(op: Operation, b: u32) -> bool

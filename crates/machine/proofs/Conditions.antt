@@ -1,6 +1,6 @@
 -- The test of well-formedness passes exactly if the conditions of document 01 hold.
 use Prim.Native.Nat.{ℕ, _<_, _≤_}
-use mathlib.Core.Bool.{Bool, true, false, _&&_, not, Bool·beq, and-false}
+use mathlib.Core.Bool.{Bool, true, false, _&&_, not, Bool·beq, and-false, and-eq-true-iff}
 use mathlib.Core.Logic.{_↔_}
 use mathlib.Core.Path.{_≡_, refl, sym, ap, _∙_}
 use native.Mathlib.Decide.{ℕ-discrete, decLt}
@@ -15,7 +15,7 @@ use Rattle.machine.specs.Status.{isIdle, waitsOtherwise, carriesInRange,
 use Rattle.machine.specs.WellFormed.{waiting, disputed, numbersInRange, idleIfDisabled, countAgreed, fewerWait, wellFormedWithin}
 use Rattle.machine.specs.Types.{Limits, Status, Idle, Running, Ended, Trapped, Waiting, Machine}
 use Rattle.machine.proofs.Meetings.{disputes}
-use Rattle.machine.proofs.Tests.{never, both}
+use Rattle.machine.proofs.Tests.{never}
 use Rattle.machine.proofs.Threads.{all-at, all-threads, none-at, no-thread}
 
 -- only a thread has a status that is not idle
@@ -50,12 +50,12 @@ module _ (l : Limits) where
 
   pub trapped-range : (reason : ℕ) → carriesInRange l (Trapped reason) ≡ true → (1 ≤ reason) × (reason ≤ l .reason)
   trapped-range reason h =
-      let x = both (leb 1 reason) (leb reason (l .reason)) h in (leb-true 1 reason (x .0), leb-true reason (l .reason) (x .1))
+      let x = and-eq-true-iff (leb 1 reason) (leb reason (l .reason)) .0 h in (leb-true 1 reason (x .0), leb-true reason (l .reason) (x .1))
 
   pub waiting-ranges : (id count : ℕ) → carriesInRange l (Waiting id count) ≡ true → (id ≤ l .barrier) × (1 ≤ count) × (count ≤ 8)
   waiting-ranges id count h =
-      let x = both (leb id (l .barrier) && leb 1 count) (leb count 8) h in
-      let y = both (leb id (l .barrier)) (leb 1 count) (x .0) in
+      let x = and-eq-true-iff (leb id (l .barrier) && leb 1 count) (leb count 8) .0 h in
+      let y = and-eq-true-iff (leb id (l .barrier)) (leb 1 count) .0 (x .0) in
       (leb-true id (l .barrier) (y .0), leb-true 1 count (y .1), leb-true count 8 (x .1))
 
 is-idle : (s : Status) → isIdle s ≡ true → s ≡ Idle
@@ -86,10 +86,10 @@ record Ranges (l : Limits) (m : Machine) : Type 0 where
 ranges : (l : Limits) (m : Machine) → numbersInRange l m ≡ true → Ranges l m
 unfolding numbersInRange
 ranges l m h =
-    let a = both (leb 1 (m .enabled) && leb (m .enabled) 255 && leb (m .last) 7 && eqb (length (m .threads)) 8) _ h in
-    let b = both (leb 1 (m .enabled) && leb (m .enabled) 255 && leb (m .last) 7) _ (a .0) in
-    let c = both (leb 1 (m .enabled) && leb (m .enabled) 255) _ (b .0) in
-    let d = both (leb 1 (m .enabled)) _ (c .0) in
+    let a = and-eq-true-iff (leb 1 (m .enabled) && leb (m .enabled) 255 && leb (m .last) 7 && eqb (length (m .threads)) 8) _ .0 h in
+    let b = and-eq-true-iff (leb 1 (m .enabled) && leb (m .enabled) 255 && leb (m .last) 7) _ .0 (a .0) in
+    let c = and-eq-true-iff (leb 1 (m .enabled) && leb (m .enabled) 255) _ .0 (b .0) in
+    let d = and-eq-true-iff (leb 1 (m .enabled)) _ .0 (c .0) in
     record {
       low = leb-true _ _ (d .0);
       high = leb-true _ _ (d .1);
@@ -143,9 +143,9 @@ module _ (l : Limits) (m : Machine) where
   conditions : wellFormedWithin l m ≡ true → WellFormedWithin l m
   unfolding wellFormedWithin
   conditions h =
-      let a = both (numbersInRange l m && allThreads (idleIfDisabled m) && allThreads (countAgreed m)) (allThreads (fewerWait m)) h in
-      let b = both (numbersInRange l m && allThreads (idleIfDisabled m)) (allThreads (countAgreed m)) (a .0) in
-      let c = both (numbersInRange l m) (allThreads (idleIfDisabled m)) (b .0) in
+      let a = and-eq-true-iff (numbersInRange l m && allThreads (idleIfDisabled m) && allThreads (countAgreed m)) (allThreads (fewerWait m)) .0 h in
+      let b = and-eq-true-iff (numbersInRange l m && allThreads (idleIfDisabled m)) (allThreads (countAgreed m)) .0 (a .0) in
+      let c = and-eq-true-iff (numbersInRange l m) (allThreads (idleIfDisabled m)) .0 (b .0) in
       let r = ranges l m (c .0) in
       record {
         mask-range = (r .low, r .high);

@@ -8,10 +8,6 @@ use Rattle.machine.specs.Search.{all}
 pub never : {A : Type 0} {b : Bool} → b ≡ true → b ≡ false → A
 never h g = absurd (false≢true (sym g ∙ h))
 
-pub both : (a b : Bool) → (a && b) ≡ true → (a ≡ true) × (b ≡ true)
-both true b h = (refl, h)
-both false b h = never h refl
-
 pub neither : (a b : Bool) → (a || b) ≡ false → (a ≡ false) × (b ≡ false)
 neither true b h = never refl h
 neither false b h = (refl, h)

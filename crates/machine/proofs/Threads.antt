@@ -1,6 +1,6 @@
 -- Laws of tests over the eight threads.
 use Prim.Native.Nat.{ℕ, zero, suc, _+_, _<_, _≤_}
-use mathlib.Core.Bool.{Bool, true, false, cond, _&&_, _||_, not}
+use mathlib.Core.Bool.{Bool, true, false, cond, _&&_, _||_, not, and-eq-true-iff}
 use mathlib.Core.List.{List, [], _∷_}
 use mathlib.Core.Path.{_≡_, refl, sym, ap, _∙_}
 use native.Mathlib.Decide.{ℕ-discrete}
@@ -9,14 +9,14 @@ use borrow.Author.Tests.{not-true, not-false}
 use Rattle.machine.specs.Machine.{threadNumbers, allThreads, anyThread, countThreads}
 use Rattle.machine.specs.Search.{all, any, count}
 use Rattle.machine.proofs.Loops.{from}
-use Rattle.machine.proofs.Tests.{never, both}
+use Rattle.machine.proofs.Tests.{never}
 
 module _ (p : ℕ → Bool) where
   all-from : (k n : ℕ) → all p (from k n) ≡ true → (j : ℕ) → k ≤ j → j < k + n → p j ≡ true
   unfolding all from
   all-from k zero h j a b = absurd (omega arith)
   all-from k (suc n) h j a b =
-      let e = both (p k) (all p (from (suc k) n)) h in
+      let e = and-eq-true-iff (p k) (all p (from (suc k) n)) .0 h in
       at (ℕ-discrete j k) (e .0) (λ l. all-from (suc k) n (e .1) j l (omega arith))
     where
       at : Dec (j ≡ k) → p k ≡ true → (suc k ≤ j → p j ≡ true) → p j ≡ true

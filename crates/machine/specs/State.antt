@@ -17,3 +17,14 @@ scalarPlace t i = 64 * t + i
 
 abbrev pub lanePlace : ℕ → ℕ → ℕ → ℕ
 lanePlace t i j = 512 + 1024 * t + 16 * i + j
+
+-- "here s59 is the mask, s63 the program counter, and the rest are plain"
+abbrev pub laneMaskRegister : ℕ
+laneMaskRegister = 59
+
+abbrev pub programCounterRegister : ℕ
+programCounterRegister = 63
+
+-- "1 jmpsr (s62 becomes own address + 4 ..), 2 jret (to s62 ..)": the link register
+abbrev pub linkRegister : ℕ
+linkRegister = 62

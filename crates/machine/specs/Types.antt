@@ -1,4 +1,4 @@
--- The types that the code declares, under one roof.
+-- The types that the code declares, by their names in the definitions.
 pub use Rattle.machine.specs.declared.status.Status.{Status}
 pub use Rattle.machine.specs.declared.status.Status.the-variants.{Idle, Running, Ended, Trapped, Waiting}
 pub use Rattle.machine.specs.declared.status.Thread.{Thread}

@@ -3,6 +3,7 @@ ghost use mathlib.Core.Path.{_≡_};
 ghost use Rattle.machine.specs.Barrier.{released, release, arrive, refusesMeeting, meet};
 ghost use Rattle.machine.specs.WellFormed.{waiting, disputed};
 use crate::record::Machine;
+use crate::status::GREATEST_BARRIER;
 use crate::status::Status;
 use crate::status::waits_at;
 use crate::status::waits_otherwise;
@@ -78,7 +79,7 @@ impl Machine {
     fn refuses_meeting(self, thread: usize, id: u32, second: u32) -> bool
         ensures { λ r. ⌜ r ≡ refusesMeeting self thread id second ⌝ }
     {
-        if 31 < id {
+        if (GREATEST_BARRIER as u32) < id {
             return true;
         }
         if 7 < second {

@@ -2,12 +2,16 @@
 // "Choosing and counting issues", "Meeting at a barrier").
 mod barrier;
 mod record;
+mod register;
 mod scheduler;
 mod status;
 mod well_formed;
 
 pub use barrier::Meeting;
 pub use record::Machine;
+pub use register::LANE_MASK;
+pub use register::LINK;
+pub use register::PROGRAM_COUNTER;
 pub use scheduler::Choice;
 pub use scheduler::Turn;
 pub use status::Status;

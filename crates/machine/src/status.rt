@@ -16,6 +16,9 @@ pub struct Thread {
     pub status: Status,
 }
 
+// The greatest barrier id: a thread meets no other at a greater one, and a record holds none.
+pub(crate) const GREATEST_BARRIER: u8 = 31;
+
 // The greatest trap reason and the greatest barrier id that a record may hold.
 pub struct Limits {
     pub reason: u8,
@@ -29,7 +32,7 @@ impl Limits {
     {
         Limits {
             reason: 6,
-            barrier: 31,
+            barrier: GREATEST_BARRIER,
         }
     }
 }

@@ -7,6 +7,7 @@ ghost use Rattle.thread_lines.specs.Text.{putsAll};
 use crate::line::put_line;
 use crate::line::put_off;
 use machine::Machine;
+use machine::PROGRAM_COUNTER;
 use text::put_text;
 
 // The lines of the threads that are on.
@@ -19,7 +20,7 @@ fn put_lines(out: &mut [u8], at: usize, machine: Machine, registers: &[u32]) -> 
     while thread < 8 {
         let entry = machine.threads[thread];
         let status = entry.status;
-        let pc = registers[64 * thread + 63];
+        let pc = registers[64 * thread + PROGRAM_COUNTER as usize];
         next = put_line(out, next, thread as u32, status, pc);
         thread += 1;
     }

@@ -1,4 +1,4 @@
--- `issuing::perform` meets its contract: by the test of the program counter, then by what the record owes the word.
+-- `issuing::perform` meets its contract: by the test of the program counter, then by the effect of the word.
 use mathlib.Core.Path.{sym, _∙_}
 use lib.ListN.{length}
 use native.Mathlib.Omega.{arith}

@@ -1,4 +1,4 @@
--- `issuing::settle` meets its contract: by what the record owes the word.
+-- `issuing::settle` meets its contract: by the effect of the instruction.
 use borrow.Author.Needs.{needs}
 use Rattle.execution.proofs.issuing.settle.Statement.{statement}
 use Rattle.execution.proofs.issuing.settle.Tie as tie

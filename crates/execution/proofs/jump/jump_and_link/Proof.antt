@@ -5,8 +5,34 @@ use borrow.Author.Needs.{needs}
 use Rattle.execution.proofs.jump.jump_and_link.Statement.{statement}
 use Rattle.execution.proofs.jump.jump_and_link.Tie as tie
 
-pub jump-and-link-spec : {M : Type 1} → statement M
+returns : tie.Need-returns
 unfolding jumpTo
+returns c =
+    let linking = c .before .before .before .before .before .before in
+    let test = linking .before .before .before in
+    let sum = test .before .before .wrapping-add-u32 in
+    let a = test .before .before .before .before .args in
+    rw (
+      ← wrapped (a .context) (a .room .now) (linked (a .context) (a .room .now)) (a .offset) (search needs) (search needs) (search needs),
+      ← sum .ensures,
+      ← test .before .in-program .ensures,
+      test .if1 .taken,
+      c .before .before .set-scalar2 .ensures,
+      linking .set-scalar .ensures,
+    )
+
+returns-2 : tie.Need-returns-2
+unfolding jumpTo
+returns-2 c =
+    let a = c .before .before .before .before .args in
+    rw (
+      ← wrapped (a .context) (a .room .now) (linked (a .context) (a .room .now)) (a .offset) (search needs) (search needs) (search needs),
+      ← c .before .before .wrapping-add-u32 .ensures,
+      ← c .before .in-program .ensures,
+      c .if1 .left,
+    )
+
+pub jump-and-link-spec : {M : Type 1} → statement M
 jump-and-link-spec =
     tie.close
     (tie.spec
@@ -16,5 +42,5 @@ jump-and-link-spec =
     (λ c κs. search needs)
     (λ c κs. search needs)
     (λ c. search needs)
-    (λ c. let a = c .before .before .before .before .before .before .before .before .before .before .before .before .args in rw (← wrapped (a .words) (a .t) (a .room .now) (linked (a .pc) (a .t) (a .room .now)) (a .pc) (a .offset) (search needs) (search needs) (search needs), ← c .before .before .before .before .before .before .before .before .before .before .wrapping-add-u32 .ensures, ← c .before .before .before .before .before .before .before .before .before .in-program .ensures, c .before .before .before .before .before .before .before .before .if1 .taken, c .before .before .set-scalar2 .ensures, c .before .before .before .before .before .before .set-scalar .ensures))
-    (λ c. let a = c .before .before .before .before .args in rw (← wrapped (a .words) (a .t) (a .room .now) (linked (a .pc) (a .t) (a .room .now)) (a .pc) (a .offset) (search needs) (search needs) (search needs), ← c .before .before .wrapping-add-u32 .ensures, ← c .before .in-program .ensures, c .if1 .left)))
+    returns
+    returns-2)

@@ -11,4 +11,4 @@ jump-by-spec =
     (λ c κs. search needs)
     (λ c κs. search needs)
     (λ c. search needs)
-    (λ c. rw (c .before .before .jump-to .ensures, c .before .before .before .wrapping-add-u32 .ensures) (wrapped _ _ _ _ _ _ (search needs) (search needs) (search needs))))
+    (λ c. rw (c .before .before .jump-to .ensures, c .before .before .before .wrapping-add-u32 .ensures) (wrapped _ _ _ _ (search needs) (search needs) (search needs))))

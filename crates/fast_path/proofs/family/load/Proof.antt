@@ -7,7 +7,7 @@ use Rattle.fast_path.proofs.family.load.Statement.{statement}
 use Rattle.fast_path.proofs.family.load.Tie as tie
 
 returns-2 : tie.Need-returns-2
-returns-2 c words enabled pc =
+returns-2 c pc enabled words =
     let called = c .before .before .before in
     let test = called .before .before .before in
     let f = test .before .before .before .before in
@@ -15,7 +15,7 @@ returns-2 c words enabled pc =
     loads (a .t) (a .room .now) (a .w) (a .op) (f .pre .1) (sym (test .before .flags-i .ensures) ∙ test .if1 .left) (a .memory .now) _
     (rw (← called .before .before .operand-a .ensures, ← called .before .short-signed .ensures)
     (sym (called .load .ensures) ∙ ap ofLoaded (c .before .x .given .1)))
-    words enabled pc
+    pc enabled words
 
 pub load-spec : {M : Type 1} → statement M
 load-spec =

@@ -5,12 +5,12 @@ use Rattle.fast_path.proofs.family.move_immediate.Statement.{statement}
 use Rattle.fast_path.proofs.family.move_immediate.Tie as tie
 
 returns-2 : tie.Need-returns-2
-returns-2 c memory words enabled pc =
+returns-2 c memory pc enabled words =
     let test = c .before .before in
     let f = test .before .before in
     let a = f .args in
     rw (c .replace .ensures, c .before .operand-d .ensures)
-    (moves (a .t) (a .room .now) (a .w) (a .op) (f .pre .1) (test .if1 .left) memory words enabled pc)
+    (moves (a .t) (a .room .now) (a .w) (a .op) (f .pre .1) (test .if1 .left) memory pc enabled words)
 
 pub move-immediate-spec : {M : Type 1} → statement M
 move-immediate-spec =

@@ -1,5 +1,6 @@
 -- `issuing::word` meets its contract: each arm by what it calls.
 use borrow.Author.Needs.{needs}
+use Rattle.execution.specs.Effect.{context}
 use Rattle.fast_path.proofs.Trying.{tries-action}
 use Rattle.fast_path.proofs.issuing.word.Statement.{statement}
 use Rattle.fast_path.proofs.issuing.word.Tie as tie
@@ -10,8 +11,8 @@ returns-5 c enabled =
     let chosen = called .before .before in
     let read = chosen .before .before .before .before .before in
     let a = read .before .before .before .args in
-    tries-action (a .words) enabled (a .t) (a .pc) (a .w) (read .register .result) (read .register .ensures) (a .room .now) (a .memory .now)
-    (chosen .action .result) (chosen .action .ensures _ enabled _) (called .act .result) _ (called .act .ensures)
+    tries-action (context (a .t) (a .pc) enabled (a .words)) (a .w) (read .register .result) (read .register .ensures) (a .room .now) (a .memory .now)
+    (chosen .action .result) (chosen .action .ensures _ enabled _) (called .act .result) _ (called .act .ensures enabled)
 
 pub word-spec : {M : Type 1} → statement M
 word-spec =
@@ -20,6 +21,7 @@ word-spec =
     (λ c κs. search needs)
     (λ c. search needs)
     (λ c. search needs)
+    (λ c. search needs)
     (λ c κs. search needs)
     (λ c κs. search needs)
     (λ c κs. search needs)
@@ -27,13 +29,13 @@ word-spec =
     (λ c κs. search needs)
     (λ c. search needs)
     (λ c. search needs)
-    (λ c enabled. c .before .before .before .before .store .ensures _ enabled)
+    (λ c enabled. c .before .before .before .before .store .ensures enabled _)
     (λ c. search needs)
     (λ c. search needs)
-    (λ c enabled. c .before .before .before .before .store2 .ensures _ enabled)
+    (λ c enabled. c .before .before .before .before .store2 .ensures enabled _)
     (λ c. search needs)
     (λ c. search needs)
-    (λ c enabled. c .before .before .before .before .store3 .ensures _ enabled)
+    (λ c enabled. c .before .before .before .before .store3 .ensures enabled _)
     (λ c. search needs)
     (λ c. search needs)
     returns-5)

@@ -1,9 +1,10 @@
 -- `starting::set_masks` meets its contract.
-use Prim.Native.Nat.{_+_, _*_, _-_, _≤_}
+use Prim.Native.Nat.{_-_, _≤_}
 use mathlib.Core.Path.{_≡_, refl, ap, _∙_}
 use native.Mathlib.Omega.{arith}
 use borrow.Author.Needs.{needs}
 use lib.ListN.{length, set, length-set}
+use Rattle.machine.specs.State.{scalarPlace, laneMaskRegister}
 use Rattle.interpreter.specs.Start.{withMasks}
 use Rattle.interpreter.proofs.Rooms.{masks-more}
 use Rattle.interpreter.proofs.starting.set_masks.Statement.{statement}
@@ -25,7 +26,7 @@ loop-again c =
     let room = c .before .before .args .registers .now in (
       omega arith,
       length-set (l .registers) _ _ ∙ l .inv .1,
-      ap (λ r. set r (64 * l .thread + 59) 0xFFFF) (l .inv .2) ∙ masks-more room (l .thread),
+      ap (λ r. set r (scalarPlace (l .thread) laneMaskRegister) 0xFFFF) (l .inv .2) ∙ masks-more room (l .thread),
     )
 
 returns : tie.Need-returns Inv-loop μ-loop
@@ -41,6 +42,7 @@ set-masks-spec =
     Inv-loop
     μ-loop
     loop-holds
+    (λ c. search needs)
     (λ c. search needs)
     (λ c. search needs)
     (λ c. search needs)

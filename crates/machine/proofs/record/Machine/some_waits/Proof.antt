@@ -1,14 +1,10 @@
 -- `some_waits` meets its contract.
-use Prim.Native.Nat.{ℕ, _-_}
+use Prim.Native.Nat.{_-_}
 use mathlib.Core.Path.{sym, _∙_}
-use mathlib.Core.Bool.{Bool}
 use native.Mathlib.Omega.{arith}
 use borrow.Author.Needs.{needs}
-use Rattle.machine.specs.Machine.{statusAt}
-use Rattle.machine.specs.Status.{isWaiting}
 use Rattle.machine.specs.Scheduler.{waits, someWaits}
 use Rattle.machine.proofs.Loops.{Searching, search-start, search-found, search-on, search-done}
-use Rattle.machine.specs.Types.{Machine}
 use Rattle.machine.proofs.record.Machine.some_waits.Statement.{statement}
 use Rattle.machine.proofs.record.Machine.some_waits.Tie as tie
 
