@@ -1,4 +1,4 @@
--- Numbers in bytes: "Little endian." (document 01, "The words", M; the same of words in "Saved image" and in the lister's input).
+-- Numbers in bytes: "Little endian." (document 01, of data memory, of the words of an image, and of those that the lister reads).
 use Prim.Native.Nat.{ℕ, zero, suc, _+_, _*_, _/_, _%_, _^_}
 use mathlib.Core.List.{List, [], _∷_, _++_}
 use lib.ListN.{getD, set}
