@@ -4,11 +4,11 @@ use mathlib.Core.Bool.{Bool, true, false, _||_, not}
 use mathlib.Core.Path.{_≡_, refl}
 use borrow.Author.Tests.{ltb-false}
 use lib.Dec.{ltb, eqb}
-use Rattle.answer.specs.Refusal.{badMemory}
+use Rattle.answer.specs.Refusal.{blockBytes, memoryBytes, badMemory}
 
 -- an allowed memory has 65,536 bytes at the most
-pub memory-most : (bytes : ℕ) → badMemory bytes ≡ false → bytes ≤ 65536
-memory-most bytes h = ltb-false 65536 bytes (second (ltb bytes 64) (ltb 65536 bytes) (not (eqb (bytes % 64) 0)) h)
+pub memory-most : (bytes : ℕ) → badMemory bytes ≡ false → bytes ≤ memoryBytes
+memory-most bytes h = ltb-false memoryBytes bytes (second (ltb bytes blockBytes) (ltb memoryBytes bytes) (not (eqb (bytes % blockBytes) 0)) h)
   where
     second : (a b c : Bool) → (a || b || c) ≡ false → b ≡ false
     second true true c h = h

@@ -15,6 +15,13 @@ programWords = 16384
 abbrev pub roomWords : ℕ
 roomWords = 8704
 
+-- "Data memory: lent bytes, a multiple of 64, from 64 to 65,536.": blocks of so many bytes, and so many bytes at the most
+abbrev pub blockBytes : ℕ
+blockBytes = 64
+
+abbrev pub memoryBytes : ℕ
+memoryBytes = 65536
+
 -- "program has 0 or more than 16,384 words"
 abbrev pub badProgram : ℕ → Bool
 badProgram words = eqb words 0 || ltb programWords words
@@ -25,7 +32,7 @@ badRegisters words = not (eqb words roomWords)
 
 -- "memory length is not allowed": "a multiple of 64, from 64 to 65,536"
 abbrev pub badMemory : ℕ → Bool
-badMemory bytes = ltb bytes 64 || ltb 65536 bytes || not (eqb (bytes % 64) 0)
+badMemory bytes = ltb bytes blockBytes || ltb memoryBytes bytes || not (eqb (bytes % blockBytes) 0)
 
 -- "start mask is 0 or above 255"
 abbrev pub badMask : ℕ → Bool
@@ -40,7 +47,7 @@ blockRecord = 68
 
 -- the length of an image with such a fixed part, of a memory of so many bytes
 abbrev pub imageLength : ℕ → ℕ → ℕ
-imageLength fixed bytes = fixed + blockRecord * (bytes / 64)
+imageLength fixed bytes = fixed + blockRecord * (bytes / blockBytes)
 
 -- "image length differs from 36,948 + 68 x (memory length / 64)"
 abbrev pub badLength : ℕ → ℕ → ℕ → Bool

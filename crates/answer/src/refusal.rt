@@ -2,7 +2,7 @@
 ghost use Prim.Native.Nat.{_≤_};
 ghost use mathlib.Core.Option.{some};
 ghost use mathlib.Core.Path.{_≡_};
-ghost use Rattle.answer.specs.Refusal.{badProgram, badRegisters, badMemory, badMask, badLength, numbered, refusedOr, lengthsNumber, sizesNumber};
+ghost use Rattle.answer.specs.Refusal.{memoryBytes, badProgram, badRegisters, badMemory, badMask, badLength, numbered, refusedOr, lengthsNumber, sizesNumber};
 
 // What a call's checks say; Refused carries a number of the table.
 pub enum Verdict {
@@ -10,25 +10,35 @@ pub enum Verdict {
     Refused(u8),
 }
 
+// The most words of a program, and the words of a register room.
+pub const PROGRAM_WORDS: usize = 16384;
+
+pub const ROOM_WORDS: usize = 8704;
+
+// The bytes of a block of memory, and the most of a memory.
+pub const BLOCK_BYTES: usize = 64;
+
+pub const MEMORY_BYTES: usize = 65536;
+
 // Whether a program's length is not allowed.
-fn bad_program(words: usize) -> bool
+pub fn bad_program(words: usize) -> bool
     ensures { λ r. ⌜ r ≡ badProgram words ⌝ }
 {
-    (words == 0) | (16384 < words)
+    (words == 0) | (PROGRAM_WORDS < words)
 }
 
 // Whether a register room's length is not allowed.
 pub fn bad_registers(words: usize) -> bool
     ensures { λ r. ⌜ r ≡ badRegisters words ⌝ }
 {
-    words != 8704
+    words != ROOM_WORDS
 }
 
 // Whether a memory's length is not allowed.
 pub fn bad_memory(bytes: usize) -> bool
     ensures { λ r. ⌜ r ≡ badMemory bytes ⌝ }
 {
-    (bytes < 64) | (65536 < bytes) | (bytes % 64 != 0)
+    (bytes < BLOCK_BYTES) | (MEMORY_BYTES < bytes) | (bytes % BLOCK_BYTES != 0)
 }
 
 // Whether a start mask is not allowed.
@@ -74,10 +84,10 @@ pub const BLOCK_RECORD: usize = 68;
 
 // Whether an image of so many bytes, with such a fixed part, is not that of a memory of so many.
 fn bad_length(fixed: u32, bytes: usize, size: usize) -> bool
-    requires { ⌜ bytes ≤ 65536 ⌝ }
+    requires { ⌜ bytes ≤ memoryBytes ⌝ }
     ensures { λ r. ⌜ r ≡ badLength fixed bytes size ⌝ }
 {
-    size != fixed as usize + BLOCK_RECORD * (bytes / 64)
+    size != fixed as usize + BLOCK_RECORD * (bytes / BLOCK_BYTES)
 }
 
 // The number that an image's call is refused with, if any: of the fixed part of its length, the words of a register room, the bytes

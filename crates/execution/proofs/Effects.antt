@@ -16,7 +16,7 @@ use Rattle.machine.specs.State.{linkRegister, programCounterRegister}
 use Rattle.memory.proofs.Claimed.{lengths}
 use Rattle.answer.specs.Reason.{misaligned, outside-memory}
 use Rattle.memory.specs.Attempt.{Attempt, done, trap, onward}
-use Rattle.memory.specs.Bytes.{numberAt, withNumber}
+use Rattle.little_endian.specs.Numbers.{numberAt, withNumber}
 use Rattle.memory.specs.Operation.{load, store, loadLanes, storeLanes, changed, gathered, scalarPlace, vectorPlace, vectorAlignment, bytesLoaded, widened, bytesStored, withLanes, Outcome}
 use Rattle.memory.specs.Place.{place, lifted, inside}
 use Rattle.execution.proofs.OwnRegisters.{Own, own-none, own-then, own-scalar, own-lanes, own-R, own-I, own-Movei}

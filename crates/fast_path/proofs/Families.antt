@@ -22,7 +22,7 @@ use Rattle.execution.specs.Operation.{binaryInto, unaryInto, compareInto, opera
 use Rattle.execution.specs.Registers.{scalar}
 use Rattle.memory.specs.Attempt.{Attempt, done, trap}
 use Rattle.memory.specs.Operation.{load, store, Outcome, outcome, changed, scalarPlace, bytesStored}
-use Rattle.memory.specs.Bytes.{withNumber}
+use Rattle.little_endian.specs.Numbers.{withNumber}
 use Rattle.memory.specs.declared.outcome.Access.the-variants.{Done}
 use Rattle.fast_path.proofs.Words.{free-register, plain-R, plain-I, plain-Movei, plain-J, plain-M}
 use Rattle.fast_path.specs.Action.{HasOpcode, Acts, ActsOn, ActsAnywhere}

@@ -6,10 +6,10 @@ use native.Mathlib.Omega.{arith}
 use lib.ListN.{length, take, drop, length-drop}
 use lib.Seq.{length-take-le}
 use Rattle.machine.specs.State.{State}
-use Rattle.image_layout.proofs.Join.{length-even, fits-in}
+use Rattle.image_layout.proofs.Join.{fits-in}
 use Rattle.image_layout.proofs.Rows.{laid-length}
 use Rattle.image_layout.specs.Layout.{kinds, rowOf, Numbered, startOf}
-use Rattle.image.specs.Bytes.{bytesOf}
+use Rattle.little_endian.proofs.Numbers.{bytes-of-length}
 use Rattle.image.specs.Image.{shapeOf, Lengths, Suits, bodyOf, image}
 use Rattle.image.specs.Types.{Kind, Hd, Th, Sr, Vr, Mm, Shape}
 
@@ -28,11 +28,6 @@ numbered a registers memory Sr i w l = omega arith
 numbered a registers memory Vr i w l = omega arith
 numbered a registers memory Mm i w l = omega (arith, w .few)
 
--- the bytes of words, and of a block
-bytes-length : (n : ℕ) (l : List ℕ) → length (bytesOf n l) ≡ 4 * n
-unfolding bytesOf
-bytes-length n l = length-even n 4 _ (λ i _. refl)
-
 block-length : (n b i : ℕ) (l : List ℕ) → n * b ≡ length l → i < b → length (take n (drop (n * i) l)) ≡ n
 block-length n b i l e h = length-take-le n (drop (n * i) l) (rw (length-drop (n * i) l) (omega (arith, fits-in n i b h)))
 
@@ -41,8 +36,8 @@ pub body-length-of : (a : Shape) (s : State) (k : Kind) → Suits a k (s .regist
     → length (bodyOf s k i) ≡ rowOf a k .size
 body-length-of a s Hd w i h = refl
 body-length-of a s Th w i h = refl
-body-length-of a s Sr w i h = bytes-length 64 _
-body-length-of a s Vr w i h = bytes-length 16 _
+body-length-of a s Sr w i h = bytes-of-length 64 _
+body-length-of a s Vr w i h = bytes-of-length 16 _
 body-length-of a s Mm w i h = block-length 64 (a .blocks) i (s .memory) (w .whole) h
 
 pub body-length : (a : Shape) (s : State) → Lengths a (s .registers) (s .memory) → (k : Kind) (i : ℕ) → i < rowOf a k .count → length (bodyOf s k i) ≡ rowOf a k .size

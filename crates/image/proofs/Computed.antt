@@ -6,7 +6,7 @@ use Rattle.machine.specs.Search.{all, any, count}
 use Rattle.machine.specs.WellFormed.{numbersInRange, wellFormedWithin}
 use Rattle.image_layout.specs.Join.{joined, total, allBelow}
 use Rattle.image_layout.specs.Layout.{positionIn, orderOf, recordOf, sectionOf, startOf, bodyAt, standsAt, headsOf, headsIn}
-use Rattle.image.specs.Bytes.{bytesOf}
+use Rattle.little_endian.specs.Numbers.{numberBytes, bytesOf}
 use Rattle.image.specs.Fields.{accepted, threadOf}
 use Rattle.image.specs.Image.{entryIn, threadsIn, machineIn, recordIn}
 use Rattle.image.specs.Opening.{recordBytes, openingNumber}
@@ -14,7 +14,7 @@ use Rattle.image.specs.Refusal.{writeNumber, readNumber}
 use Rattle.image.specs.Rows.{BytesHold, WriteOrder, ReadOrder, OpeningOrder}
 
 pub bytes-hold : BytesHold
-unfolding recordBytes joined sectionOf recordOf bytesOf
+unfolding recordBytes joined sectionOf recordOf bytesOf numberBytes
 bytes-hold = record { hd = λ m. refl; record-bytes = refl; sr = refl; vr = refl; mm = refl; word = refl }
 
 pub write-order : WriteOrder

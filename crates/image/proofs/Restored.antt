@@ -18,12 +18,13 @@ use Rattle.image.proofs.Numbers.{exact}
 use Rattle.machine.proofs.Tests.{never}
 use Rattle.image.specs.Fields.{fieldsOf}
 use Rattle.machine.specs.Machine.{zeroThread}
-use Rattle.image.specs.Bytes.{wordBytes, byteWord, bytesOf, wordsOf}
+use Rattle.little_endian.specs.Numbers.{numberAt, numberBytes, bytesOf, wordsOf}
 use Rattle.image.specs.Claims.{Words, Bytes}
 use Rattle.image.specs.Image.{fieldBytes, bodyOf, image, fieldsIn, isEntry, entryOr, entryIn, threadsIn, machineIn, roomIn, registersIn, memoryIn, stateIn}
 use Rattle.image.specs.Types.{Kind, Hd, Th, Sr, Vr, Mm, Shape, Thread}
 use Rattle.image.proofs.Rooms.{room-length, body-size, memory-length}
-use Rattle.image.proofs.Words.{words-bytes, words-length, part-bound, four-of}
+use Rattle.little_endian.proofs.Numbers.{words-length, word-bound}
+use Rattle.image.proofs.Words.{bytes-joined, words-joined, words-bytes, part-bound, four-of}
 
 -- Lists.
 
@@ -35,9 +36,10 @@ two-of (x ∷ y ∷ z ∷ c) h = absurd (omega arith)
 
 -- the bytes of n words are those of the first n
 bytes-cut : (n : ℕ) (words : List ℕ) → bytesOf n words ≡ bytesOf n (take n words)
-unfolding bytesOf
 bytes-cut n words =
-    joined-same n (λ j. wordBytes (getD words j 0)) (λ j. wordBytes (getD (take n words) j 0)) (λ j h. ap wordBytes (sym (getD-take n words j 0 h)))
+    bytes-joined n words
+    ∙ (joined-same n (λ j. numberBytes 4 (getD words j 0)) (λ j. numberBytes 4 (getD (take n words) j 0)) (λ j h. ap (numberBytes 4) (sym (getD-take n words j 0 h)))
+    ∙ sym (bytes-joined n (take n words)))
 
 body-bound : (a : Shape) (l : List ℕ) → Bytes l → (k : Kind) (i : ℕ) → Bytes (bodyIn a l k i)
 unfolding bodyAt
@@ -133,12 +135,10 @@ one-bound b x p h zero = h
 one-bound b x p h (suc k) = p
 
 words-bound : (n : ℕ) (l : List ℕ) → Bytes l → Words (wordsOf n l)
-unfolding wordsOf
-words-bound n l h =
-    joined-bound 4294967296 n (λ j. byteWord (take 4 (drop (4 * j) l)) ∷ []) (omega arith)
-    (λ j. one-bound 4294967296 (byteWord (take 4 (drop (4 * j) l))) (omega arith)
-    (let b = part-bound 4 (4 * j) l h in
-    omega (arith, b 0, b 1, b 2, b 3)))
+words-bound n l h k =
+    rw (words-joined n l)
+    (joined-bound 4294967296 n (λ j. numberAt 4 l (4 * j) ∷ []) (omega arith)
+    (λ j. one-bound 4294967296 (numberAt 4 l (4 * j)) (omega arith) (word-bound l (4 * j) h)) k)
 
 pub registers-bound : (a : Shape) (l : List ℕ) → Bytes l → Words (registersIn a l)
 unfolding registersIn roomIn

@@ -9,11 +9,12 @@ use Rattle.image_layout.proofs.Join.{grown-more, grown-whole, length-even}
 use Rattle.image_layout.proofs.Parts.{joined-same}
 use Rattle.image_layout.specs.Join.{joined, Grown}
 use Rattle.image_layout.specs.Layout.{rowOf, kinds, orderOf, startOf, bodyPlace, bodyAt, bodyIn}
-use Rattle.image.specs.Bytes.{wordsOf}
+use Rattle.little_endian.specs.Numbers.{wordsOf}
 use Rattle.image.specs.Image.{roomIn, registersIn, memoryIn}
 use Rattle.image.specs.Types.{Sr, Vr, Mm, Shape, Kind}
 use Rattle.image.proofs.RecordIn.{body-room}
-use Rattle.image.proofs.Words.{words-cut, words-length}
+use Rattle.image.proofs.Words.{words-cut}
+use Rattle.little_endian.proofs.Numbers.{words-length}
 
 module _ (s : Shape) (l : List ℕ) where
   -- words n in a record, at the places of the bodies

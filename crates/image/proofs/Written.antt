@@ -22,7 +22,7 @@ use Rattle.machine.specs.Machine.{zeroThread}
 use Rattle.machine.proofs.Claims.{tested}
 use Rattle.machine.specs.Status.{limits}
 use Rattle.machine.specs.WellFormed.{wellFormed}
-use Rattle.image.specs.Bytes.{bytesOf, wordsOf}
+use Rattle.little_endian.specs.Numbers.{bytesOf, wordsOf}
 use Rattle.image.specs.Claims.{Words}
 use Rattle.image.specs.Image.{shapeOf, Lengths, bodyOf, image, fieldsIn, isEntry, entryOr, entryIn, threadsIn, machineIn, recordIn, roomIn, registersIn, memoryIn, stateIn}
 use Rattle.image.specs.Types.{Kind, Hd, Th, Sr, Vr, Mm, Shape, Machine, Thread}

@@ -12,7 +12,7 @@ use Rattle.machine.specs.Machine.{zeroThread}
 use Rattle.machine.specs.WellFormed.{wellFormed}
 use Rattle.image_layout.specs.Join.{joined, allBelow}
 use Rattle.image_layout.specs.Layout.{ofBlocks, rowOf, laidOut, bodyIn}
-use Rattle.image.specs.Bytes.{bytesOf, wordsOf}
+use Rattle.little_endian.specs.Numbers.{bytesOf, wordsOf}
 use Rattle.image.specs.Fields.{fields, fieldsOf, threadOf}
 use Rattle.image.specs.Types.{Kind, Hd, Th, Sr, Vr, Mm, Shape, Machine, Thread, Fields}
 

@@ -1,6 +1,5 @@
 -- The saved image: what the contracts cite.
 pub mod Types
-pub mod Bytes
 pub mod Fields
 pub mod Image
 pub mod Refusal

@@ -8,7 +8,7 @@ use mathlib.Core.Path.{_≡_}
 use lib.ListN.{replicate, set, take}
 use Rattle.machine.specs.Machine.{zeroThread, withStatus, zeroed, start}
 use Rattle.image_layout.specs.Layout.{ofBlocks, headOf, rowOf}
-use Rattle.image.specs.Bytes.{bytesOf}
+use Rattle.little_endian.specs.Numbers.{bytesOf}
 use Rattle.image.specs.Opening.{recordBytes, openingNumber}
 use Rattle.image.specs.Refusal.{writeNumber, readNumber}
 use Rattle.image.specs.Types.{Sr, Vr, Mm, Machine, Status, Idle, Running, Ended, Trapped, Waiting, Thread}

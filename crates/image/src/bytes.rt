@@ -3,12 +3,12 @@ ghost use Prim.Native.Nat.{_+_, _*_, _<_, _≤_};
 ghost use mathlib.Core.Path.{_≡_};
 ghost use lib.ListN.{length, getD, take, drop};
 ghost use Rattle.image_layout.specs.Join.{Grown};
-ghost use Rattle.image.specs.Bytes.{wordBytes, byteWord, bytesOf, wordsOf};
+ghost use Rattle.little_endian.specs.Numbers.{numberAt, numberBytes, bytesOf, wordsOf};
 
 // A word stored from a place on, the lowest byte first.
 fn put_word(word: u32, buffer: &mut [u8], at: usize)
     requires { ⌜ at + 4 ≤ length (now buffer) ⌝ }
-    ensures { λ _. ⌜ Grown (now (buffer .entry)) (now (buffer .exit)) at (at + 4) (wordBytes word) ⌝ }
+    ensures { λ _. ⌜ Grown (now (buffer .entry)) (now (buffer .exit)) at (at + 4) (numberBytes 4 word) ⌝ }
 {
     buffer[at] = (word % 256) as u8;
     buffer[at + 1] = (word / 256 % 256) as u8;
@@ -37,7 +37,7 @@ fn byte(image: &[u8], at: usize) -> u32
 // The word at a place.
 fn word_at(image: &[u8], at: usize) -> u32
     requires { ⌜ at + 4 ≤ length (now image) ⌝ }
-    ensures { λ r. ⌜ r ≡ byteWord (take 4 (drop at (now (image .entry)))) ⌝ }
+    ensures { λ r. ⌜ r ≡ numberAt 4 (now (image .entry)) at ⌝ }
 {
     let b0 = byte(image, at);
     let b1 = byte(image, at + 1);

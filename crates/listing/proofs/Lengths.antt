@@ -2,8 +2,7 @@
 use Prim.Native.Nat.{ℕ, zero, suc, _-_, _*_, _≤_, _<_}
 use mathlib.Core.Bool.{Bool, true, false, cond}
 use mathlib.Core.List.{List, [], _∷_, _++_}
-use mathlib.Core.Path.{_≡_, refl, _∙_}
-use native.Mathlib.Numerals.{add-one}
+use mathlib.Core.Path.{_≡_, refl}
 use native.Mathlib.Omega.{arith}
 use lib.Dec.{eqb, lit≤}
 use lib.ListN.{length, take, replicate, length-append}
@@ -16,7 +15,8 @@ use Rattle.isa.specs.Text.{bytes}
 use Rattle.isa.specs.declared.instruction.Instruction.{Instruction}
 use Rattle.names.specs.declared.name.Name.{Name}
 use Rattle.text.proofs.Lengths.{decimal-short}
-use Rattle.listing.specs.Listing.{labelOf, label, columnsOf, line, lines, header, wordAt, wordsTo}
+use Rattle.listing.specs.Listing.{labelOf, label, columnsOf, line, lines, header}
+use Rattle.little_endian.specs.Numbers.{numberAt}
 use Rattle.text.specs.Number.{decimal}
 
 -- a text is taken out of its padding again, and has room there
@@ -46,13 +46,8 @@ unfolding lines
 length-lines input zero = lit≤ tt
 length-lines input (suc k) =
     let h = length-lines input k in
-    let g = length-line (4 * k) (wordAt input k) in
-    rw (length-append (lines input k) (line (4 * k) (wordAt input k))) (omega arith)
-
-pub length-words : (input : List ℕ) (k : ℕ) → length (wordsTo input k) ≡ k
-unfolding wordsTo
-length-words input zero = refl
-length-words input (suc k) = length-append (wordsTo input k) (wordAt input k ∷ []) ∙ rw (length-words input k) (add-one k)
+    let g = length-line (4 * k) (numberAt 4 input (4 * k)) in
+    rw (length-append (lines input k) (line (4 * k) (numberAt 4 input (4 * k)))) (omega arith)
 
 pub length-header : (n : ℕ) → n < 100000 → length (header n) ≤ 12
 unfolding header bytes

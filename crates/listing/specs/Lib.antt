@@ -1,3 +1,2 @@
 -- The listing of a program: what the contracts cite.
 pub mod Listing
-pub mod Buffer

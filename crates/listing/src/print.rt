@@ -1,64 +1,16 @@
 // The listing: header, lines, and the refusal.
 use isa::Reading;
+use little_endian::word_at;
 use text::hex_of;
 use text::put_decimal;
 use text::put_text;
 ghost use mathlib.Core.List.{_++_};
 ghost use mathlib.Core.Path.{_≡_};
-ghost use Prim.Native.Nat.{_+_, _*_, _≤_, _<_};
+ghost use Prim.Native.Nat.{_+_, _≤_, _<_};
 ghost use lib.ListN.{length};
 ghost use Rattle.isa.specs.Text.{bytes};
 ghost use Rattle.text.specs.Buffer.{wrote, writes};
-ghost use Rattle.listing.specs.Buffer.{loads, printed};
-ghost use Rattle.listing.specs.Listing.{wordAt, wordsTo, columnsOf, header, line, bad};
-
-fn word_at(input: &[u8], k: usize) -> u32
-    requires { ⌜ 4 * k + 3 < length (now input) ⌝ }
-    ensures { λ r. ⌜ r ≡ wordAt (now (input .entry)) k ⌝ }
-{
-    wide(input[4 * k])
-        + 0x100 * wide(input[4 * k + 1])
-        + 0x10000 * wide(input[4 * k + 2])
-        + 0x1000000 * wide(input[4 * k + 3])
-}
-
-fn wide(b: u8) -> u32
-    ensures { λ r. ⌜ (r ≡ b) × (r < 256) ⌝ }
-{
-    b as u32
-}
-
-// Whether an input is no program.
-fn is_bad(input: &[u8]) -> bool
-    ensures { λ r. ⌜ r ≡ bad (now (input .entry)) ⌝ }
-{
-    let size = input.len();
-    (size == 0) | (size % 4 != 0) | (65536 < size)
-}
-
-// The first words of an input, stored from the start on.
-fn take_words(input: &[u8], count: usize, program: &mut [u32]) -> usize
-    requires { ⌜ (4 * count ≤ length (now input)) × (count ≤ length (now program)) ⌝ }
-    ensures { λ r. ⌜ wrote r (now (program .exit)) ≡ writes (now (program .entry)) 0 (wordsTo (now (input .entry)) count) ⌝ }
-{
-    let mut k = 0;
-    while k < count {
-        program[k] = word_at(input, k);
-        k += 1;
-    }
-    k
-}
-
-// Puts the words of a program's bytes at the start of the buffer, and answers their number; 0 where the bytes are no program.
-pub fn words(input: &[u8], program: &mut [u32; 16384]) -> usize
-    ensures { λ r. ⌜ wrote r (now (program .exit)) ≡ loads (now (input .entry)) (now (program .entry)) ⌝ }
-{
-    let refused = is_bad(input);
-    if refused {
-        return 0;
-    }
-    take_words(input, input.len() / 4, program)
-}
+ghost use Rattle.listing.specs.Listing.{columnsOf, header, line, printed};
 
 // The columns of a line before its name.
 fn columns(address: u32, w: u32) -> [u8; 18]
@@ -129,7 +81,7 @@ fn put_line(out: &mut [u8], at: usize, address: u32, w: u32) -> usize
 pub fn list(input: &[u8], out: &mut [u8; 475148]) -> usize
     ensures { λ r. ⌜ wrote r (now (out .exit)) ≡ printed (now (input .entry)) (now (out .entry)) ⌝ }
 {
-    let refused = is_bad(input);
+    let refused = program::bad_bytes(input.len());
     if refused {
         return put_text(out, 0, b"refused 1\n");
     }
@@ -137,7 +89,7 @@ pub fn list(input: &[u8], out: &mut [u8; 475148]) -> usize
     let mut at = put_header(out, count as u32);
     let mut k = 0;
     while k < count {
-        at = put_line(out, at, (4 * k) as u32, word_at(input, k));
+        at = put_line(out, at, (4 * k) as u32, word_at(input, 4 * k));
         k += 1;
     }
     at

@@ -1,6 +1,7 @@
 // The machine record of the house core: thread entries, the scheduler and the barriers (document 01, "What a machine holds",
 // "Choosing and counting issues", "Meeting at a barrier").
 mod barrier;
+mod idle;
 mod record;
 mod register;
 mod scheduler;
@@ -8,6 +9,7 @@ mod status;
 mod well_formed;
 
 pub use barrier::Meeting;
+pub use idle::is_idle;
 pub use record::Machine;
 pub use register::LANE_MASK;
 pub use register::LINK;

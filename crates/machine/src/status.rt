@@ -1,7 +1,7 @@
 // A thread's entry: its status, with what that status carries.
 ghost use mathlib.Core.Path.{_≡_};
 ghost use Rattle.machine.specs.Machine.{zeroThread, withStatus};
-ghost use Rattle.machine.specs.Status.{limits, isIdle, isRunning, isWaiting, waitsAt, waitsOtherwise, carriesInRange};
+ghost use Rattle.machine.specs.Status.{limits, isRunning, isWaiting, waitsAt, waitsOtherwise, carriesInRange};
 
 // Trapped carries a reason; Waiting carries a barrier id and a count.
 pub enum Status {
@@ -34,18 +34,6 @@ impl Limits {
             reason: 6,
             barrier: GREATEST_BARRIER,
         }
-    }
-}
-
-pub fn is_idle(status: Status) -> bool
-    ensures { λ r. ⌜ r ≡ isIdle status ⌝ }
-{
-    match status {
-        Status::Idle => true,
-        Status::Running => false,
-        Status::Ended => false,
-        Status::Trapped(_) => false,
-        Status::Waiting(_, _) => false,
     }
 }
 

@@ -6,12 +6,12 @@ ghost use lib.Dec.{ltb};
 ghost use Rattle.machine.specs.Machine.{statusAt};
 ghost use Rattle.machine.specs.Status.{carriesInRange, ifWaiting};
 ghost use Rattle.machine.specs.WellFormed.{wellFormedWithin, waiting, disputed, idleIfDisabled, countAgreed, fewerWait, wellFormed};
+use crate::idle::is_idle;
 use crate::record::Machine;
 use crate::record::is_disabled;
 use crate::status::Limits;
 use crate::status::Status;
 use crate::status::carries_in_range;
-use crate::status::is_idle;
 use crate::status::waits_at;
 use crate::status::waits_otherwise;
 

@@ -1,56 +1,25 @@
 -- A load after a store gives the value back.
-use Prim.Native.Nat.{ℕ, zero, suc, _+_, _*_, _/_, _%_, _^_, _≤_, _<_}
+use Prim.Native.Nat.{ℕ, zero, suc, _+_, _*_, _%_, _^_, _≤_, _<_}
 use mathlib.Core.Bool.{Bool, true, false, cond}
 use mathlib.Core.List.{List}
-use mathlib.Core.Path.{_≡_, refl, sym, ap, _∙_}
-use native.Mathlib.Nat.{mod-one, mod-eq-of-lt, mod-lt}
+use mathlib.Core.Path.{_≡_, refl, ap, _∙_}
+use native.Mathlib.Nat.{mod-eq-of-lt, mod-lt}
 use native.Mathlib.Omega.{arith}
 use lib.Dec.{ltb}
-use lib.ListN.{length, getD, set, length-set}
-use lib.Pow.{pow-pos, mod-pow-add}
-use lib.Seq.{getD-set-same, getD-set-other}
+use lib.ListN.{length}
+use lib.Pow.{pow-pos}
 use borrow.Author.Tests.{ltb-true, ltb-false}
 use Rattle.vector.specs.Lanes.{lane, isOn}
 use Rattle.vector.proofs.Filling.{tab-lane}
 use Rattle.memory.specs.Attempt.{Attempt, done, trap, onward}
-use Rattle.memory.specs.Bytes.{numberAt, withNumber}
+use Rattle.little_endian.specs.Numbers.{numberAt, withNumber}
 use Rattle.memory.specs.Claims.{LoadAfterStore, LanesAfterStore}
 use Rattle.memory.specs.Operation.{widened, scalarPlace, vectorPlace, changed, load, store, each, withLanes, storeLanes, lanesAt, gathered, loadLanes}
 use Rattle.memory.specs.Place.{lifted}
 use Rattle.memory.specs.Types.{Load8, Load16, Load32, Load8u, Load16u}
-use Rattle.memory.proofs.Claimed.{kept-number, kept-each, kept-if}
+use Rattle.little_endian.proofs.Numbers.{kept-number, other-number, back}
+use Rattle.memory.proofs.Claimed.{kept-each, kept-if}
 use Rattle.memory.proofs.Places.{within}
-
--- ---- numbers in bytes
-
--- a store leaves every other byte,
-other-byte : (n : ℕ) (m : List ℕ) (a w k : ℕ) → (a ≤ k → k < a + n → ⊥) → getD (withNumber n m a w) k 0 ≡ getD m k 0
-unfolding withNumber
-other-byte zero m a w k h = refl
-other-byte (suc n) m a w k h =
-    other-byte n (set m a (w % 2 ^ 8)) (a + 1) (w / 2 ^ 8) k (λ p q. h (omega arith) (omega arith))
-    ∙ getD-set-other m a k (w % 2 ^ 8) 0 (λ e. h (omega arith) (omega arith))
-
-same-number : (n : ℕ) (l m : List ℕ) (a : ℕ) → ((k : ℕ) → a ≤ k → k < a + n → getD l k 0 ≡ getD m k 0) → numberAt n l a ≡ numberAt n m a
-unfolding numberAt
-same-number zero l m a h = refl
-same-number (suc n) l m a h = rw (h a (omega arith) (omega arith), same-number n l m (a + 1) (λ k p q. h k (omega arith) (omega arith)))
-
--- hence every number that shares no byte with it,
-other-number : (n : ℕ) (m : List ℕ) (a w b : ℕ) → (b < a + n → a < b + n → ⊥) → numberAt n (withNumber n m a w) b ≡ numberAt n m b
-other-number n m a w b h = same-number n (withNumber n m a w) m b (λ k p q. other-byte n m a w k (λ r s. h (omega arith) (omega arith)))
-
--- and its own bytes are the number, as far as they hold it
-back : (n : ℕ) (m : List ℕ) (a w : ℕ) → a + n ≤ length m → numberAt n (withNumber n m a w) a ≡ w % 2 ^ (8 * n)
-unfolding numberAt withNumber
-back zero m a w h = sym (mod-one w)
-back (suc n) m a w h =
-    let stays = other-byte n (set m a (w % 2 ^ 8)) (a + 1) (w / 2 ^ 8) a (λ p q. omega arith) in
-    let own = stays ∙ getD-set-same m a (w % 2 ^ 8) 0 (omega arith) in
-    let rest = back n (set m a (w % 2 ^ 8)) (a + 1) (w / 2 ^ 8) (omega (arith, length-set m a (w % 2 ^ 8))) in
-    let sum = mod-pow-add w (8 * n) 8 in
-    let e : 8 * suc n ≡ 8 * n + 8 = omega arith in
-    rw (own, rest, e, sum) (omega arith)
 
 -- ---- scalars
 

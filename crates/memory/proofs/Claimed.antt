@@ -2,19 +2,20 @@
 use mathlib.Core.Path.{_≡_, refl, sym, ap, _∙_}
 use mathlib.Core.Bool.{Bool, true, false, cond}
 use mathlib.Core.List.{List}
-use Prim.Native.Nat.{ℕ, zero, suc, _+_, _-_, _*_, _/_, _%_, _^_, _≤_, _<_}
+use Prim.Native.Nat.{ℕ, zero, suc, _+_, _-_, _*_, _^_, _≤_, _<_}
 use native.Mathlib.Omega.{arith}
 use lib.Dec.{leb, ltb}
 use lib.IntN.{pos, negsuc, subℕ, _+ℤ_}
-use lib.ListN.{length, set, length-set}
+use lib.ListN.{length}
 use borrow.Author.Tests.{leb-true, leb-false, lt-ltb, le-ltb, ltb-true, ltb-false}
 use Rattle.alu.specs.Word.{value}
 use Rattle.vector.specs.Lanes.{lane, isOn}
 use Rattle.vector.proofs.Filling.{tab-length}
 use Rattle.alu.proofs.Signed.{value-positive, value-negative}
+use Rattle.little_endian.proofs.Numbers.{kept-number}
 use Rattle.memory.specs.Place.{lifted, place}
 use Rattle.memory.specs.Attempt.{Attempt, done, trap}
-use Rattle.memory.specs.Bytes.{numberAt, withNumber}
+use Rattle.little_endian.specs.Numbers.{numberAt, withNumber}
 use Rattle.memory.specs.Operation.{bytesStored, scalarPlace, vectorPlace, changed, load, store, each, withLanes, storeLanes, lanesAt, gathered, loadLanes}
 use Rattle.memory.specs.Claims.{AddressIsSum, Figures, Rows, Lengths}
 
@@ -51,11 +52,6 @@ unfolding load store place numberAt withNumber
 rows-hold = record { loaded = refl; signed = refl; unsigned = refl; stored = refl }
 
 -- ---- lengths
-
-pub kept-number : (n : ℕ) (m : List ℕ) (a w : ℕ) → length (withNumber n m a w) ≡ length m
-unfolding withNumber
-kept-number zero m a w = refl
-kept-number (suc n) m a w = kept-number n (set m a (w % 2 ^ 8)) (a + 1) (w / 2 ^ 8) ∙ length-set m a (w % 2 ^ 8)
 
 pub kept-each : (n : ℕ) (g : ℕ → List ℕ → List ℕ) (m : List ℕ) → ((j : ℕ) (l : List ℕ) → length (g j l) ≡ length l) → length (each n g m) ≡ length m
 unfolding each

@@ -2,6 +2,5 @@
 pub mod Types
 pub mod Attempt
 pub mod Place
-pub mod Bytes
 pub mod Operation
 pub mod Claims

@@ -8,7 +8,7 @@ use Rattle.vector.specs.Lanes.{tab, lane, isOn}
 use Rattle.memory.specs.Types.{LoadOp, Load8, Load16, Load32, Load8u, Load16u, StoreOp, Store8, Store16, Store32, Sext8, Sext16, Access, LoadedLanes}
 use Rattle.memory.specs.Attempt.{Attempt, done, trap, onward, ofAccess}
 use Rattle.memory.specs.Place.{lifted, place}
-use Rattle.memory.specs.Bytes.{numberAt, withNumber}
+use Rattle.little_endian.specs.Numbers.{numberAt, withNumber}
 
 -- "0 load8, 1 load16 (sign kept), 2 load32, 4 load8u, 5 load16u": how many bytes,
 abbrev pub bytesLoaded : LoadOp → ℕ

@@ -2,7 +2,7 @@
 ghost use mathlib.Core.Path.{_≡_};
 ghost use Prim.Native.Nat.{_+_, _≤_, _<_, _^_};
 ghost use lib.ListN.{length, getD};
-ghost use Rattle.memory.specs.Bytes.{numberAt, withNumber};
+ghost use Rattle.little_endian.specs.Numbers.{numberAt, withNumber};
 
 fn byte(memory: &[u8], a: usize) -> u32
     requires { ⌜ a < length (now memory) ⌝ }

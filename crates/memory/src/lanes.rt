@@ -3,7 +3,7 @@ ghost use mathlib.Core.Path.{_≡_};
 ghost use mathlib.Core.Bool.{cond};
 ghost use Prim.Native.Nat.{_+_, _≤_};
 ghost use lib.ListN.{length};
-ghost use Rattle.memory.specs.Bytes.{withNumber};
+ghost use Rattle.little_endian.specs.Numbers.{withNumber};
 ghost use Rattle.memory.specs.Operation.{lanesAt, withLanes, loadLanes, ofLanes, outcome, storeLanes};
 use crate::bytes::read32;
 use crate::bytes::write32;

@@ -3,7 +3,7 @@ ghost use mathlib.Core.Path.{_≡_};
 ghost use Prim.Native.Nat.{_+_, _≤_};
 ghost use lib.ListN.{length};
 ghost use Rattle.memory.specs.Attempt.{ofLoaded};
-ghost use Rattle.memory.specs.Bytes.{numberAt, withNumber};
+ghost use Rattle.little_endian.specs.Numbers.{numberAt, withNumber};
 ghost use Rattle.memory.specs.Operation.{bytesLoaded, widened, load, bytesStored, outcome, store};
 use crate::bytes::read8;
 use crate::bytes::read16;

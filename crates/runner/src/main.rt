@@ -143,7 +143,7 @@ fn load(settings: Settings) {
         return;
     }
     let mut program = [0u32; 16384];
-    let count = listing::words(&bytes[..size], &mut program);
+    let count = program::words(&bytes[..size], &mut program);
     if count == 0 {
         refuse(1);
         return;

@@ -3,7 +3,8 @@ use borrow.Author.Needs.{needs}
 use lib.ListN.{replicate}
 use mathlib.Core.Path.{sym, _∙_}
 use Rattle.text.proofs.Shown.{shown}
-use Rattle.runner.proofs.Memory.{memory-small, part-small}
+use Rattle.answer.proofs.Lengths.{memory-most}
+use Rattle.runner.proofs.Memory.{part-small}
 use Rattle.runner.proofs.begin.Statement.{statement}
 use Rattle.runner.proofs.begin.Tie as tie
 
@@ -15,7 +16,7 @@ begin-spec =
     (λ c κs. search needs)
     (λ c κs. search needs)
     (λ c. search needs)
-    (λ c. memory-small _ (sym (c .before .bad-memory .ensures) ∙ c .if1 .left))
-    (λ c. shown _ _ (memory-small _ (sym (c .before .before .bad-memory .ensures) ∙ c .before .if1 .left)))
-    (λ c κs. let n = c .before .before .before .before .before .args .settings .memory in let h = memory-small n (sym (c .before .before .bad-memory .ensures) ∙ c .before .if1 .left) in part-small n 65536 (replicate 65536 0) h h)
+    (λ c. memory-most _ (sym (c .before .bad-memory .ensures) ∙ c .if1 .left))
+    (λ c. shown _ _ (memory-most _ (sym (c .before .before .bad-memory .ensures) ∙ c .before .if1 .left)))
+    (λ c κs. let n = c .before .before .before .before .before .args .settings .memory in let h = memory-most n (sym (c .before .before .bad-memory .ensures) ∙ c .before .if1 .left) in part-small n 65536 (replicate 65536 0) h h)
     (λ c. search needs))

@@ -1,6 +1,6 @@
 -- `load` is safe: the program is a part of its buffer.
 use borrow.Author.Needs.{needs}
-use Rattle.listing.proofs.Shown.{words-within}
+use Rattle.program.proofs.Shown.{words-within}
 use Rattle.text.proofs.Shown.{shown}
 use Rattle.runner.proofs.load.Statement.{statement}
 use Rattle.runner.proofs.load.Tie as tie

@@ -1,6 +1,7 @@
 -- `bytes::put_word` meets its contract.
 use lib.ListN.{length-set}
 use Rattle.image.proofs.Words.{grown-four}
+use Rattle.little_endian.proofs.Numbers.{four-bytes}
 use native.Mathlib.Omega.{arith}
 use borrow.Author.Needs.{needs}
 use Rattle.image.proofs.bytes.put_word.Statement.{statement}
@@ -22,4 +23,4 @@ put-word-spec =
     (λ c. search needs)
     (λ c. simp length-set (omega arith))
     (λ c. search needs)
-    (λ c. grown-four (c .args .buffer .now) (c .args .at) _ _ _ _ (c .pre)))
+    (λ c. rw (four-bytes (c .args .word)) (grown-four (c .args .buffer .now) (c .args .at) _ _ _ _ (c .pre))))

@@ -3,7 +3,7 @@ use Prim.Native.Nat.{_+_, _*_, _-_, _≤_}
 use mathlib.Core.Path.{_≡_, refl}
 use lib.ListN.{drop}
 use Rattle.image_layout.specs.Join.{Grown}
-use Rattle.image.specs.Bytes.{bytesOf}
+use Rattle.little_endian.specs.Numbers.{bytesOf}
 use Rattle.image.proofs.Words.{bytes-none, bytes-more}
 use native.Mathlib.Omega.{arith}
 use borrow.Author.Needs.{needs}

@@ -3,7 +3,7 @@ use Prim.Native.Nat.{_+_, _-_, _≤_}
 use mathlib.Core.Path.{_≡_}
 use lib.ListN.{drop}
 use Rattle.image_layout.specs.Join.{Grown}
-use Rattle.image.specs.Bytes.{wordsOf}
+use Rattle.little_endian.specs.Numbers.{wordsOf}
 use Rattle.image.proofs.Words.{words-none, words-more}
 use native.Mathlib.Omega.{arith}
 use borrow.Author.Needs.{needs}

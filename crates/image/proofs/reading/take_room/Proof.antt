@@ -8,7 +8,7 @@ use Rattle.image_layout.proofs.Join.{fits-in, grown-start, grown-join, grown-en
 use Rattle.image_layout.proofs.Rows.{size-few}
 use Rattle.image_layout.specs.Join.{joined, Grown}
 use Rattle.image_layout.specs.Layout.{rowOf, recordSize}
-use Rattle.image.specs.Bytes.{wordsOf}
+use Rattle.little_endian.specs.Numbers.{wordsOf}
 use Rattle.image.proofs.RecordIn.{fixed-place, body-room}
 use Rattle.image.proofs.Rooms.{room-read}
 use native.Mathlib.Omega.{arith}

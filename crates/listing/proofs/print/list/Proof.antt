@@ -8,11 +8,12 @@ use lib.ListN.{length}
 use Rattle.isa.specs.Text.{bytes}
 use Rattle.listing.proofs.Lengths.{length-header, length-lines}
 use Rattle.text.proofs.Placing.{end-is, next, puts-at, writes-none}
-use Rattle.listing.proofs.Sizes.{whole}
+use Rattle.program.proofs.Sizes.{whole}
 use Rattle.listing.proofs.print.list.Statement.{statement}
 use Rattle.listing.proofs.print.list.Tie as tie
 use Rattle.text.specs.Buffer.{wrote, writes}
-use Rattle.listing.specs.Listing.{wordAt, header, line, lines, listing}
+use Rattle.listing.specs.Listing.{header, line, lines, listing}
+use Rattle.little_endian.specs.Numbers.{numberAt}
 
 abbrev Inv-loop : tie.InvT-loop
 Inv-loop input out₀ refused count at₀ k₀ out at k = (wrote at out ≡ writes out₀ at₀ (lines input k)) × (k ≤ count)
@@ -22,7 +23,7 @@ abbrev μ-loop : tie.MeasureT-loop
 
 returns : tie.Need-returns Inv-loop μ-loop
 unfolding listing bytes
-returns c = rw (sym (c .before .before .before .before .is-bad .ensures) ∙ c .before .before .before .if1 .taken) (c .put-text .ensures ∙ puts-at (c .before .before .before .before .before .before .args .out .now) 0 (bytes "refused 1\n") (omega (arith, c .before .before .put-text-arg .given .0 .1)))
+returns c = rw (sym (c .before .before .before .before .bad-bytes .ensures) ∙ c .before .before .before .if1 .taken) (c .put-text .ensures ∙ puts-at (c .before .before .before .before .before .before .args .out .now) 0 (bytes "refused 1\n") (omega (arith, c .before .before .put-text-arg .given .0 .1)))
 
 loop-holds : tie.Need-loop-holds Inv-loop μ-loop
 unfolding lines
@@ -33,7 +34,7 @@ put-line-requires c κs =
     let b = c .before .before .before .before .before .before in
     let s = b .before .before .before .args in
     let l = c .before .before .before .loop in
-    let w = whole (length (s .input .now)) (sym (b .before .is-bad .ensures) ∙ b .if1 .left) in
+    let w = whole (length (s .input .now)) (sym (b .before .bad-bytes .ensures) ∙ b .if1 .left) in
     let e = end-is (c .before .before .before .before .put-header .ensures) in
     omega (arith, end-is (l .inv .0), length-lines (s .input .now) (l .k), length-header (length (s .input .now) / 4) (omega arith), c .before .put-line-arg .given .0 .1)
 
@@ -44,11 +45,11 @@ loop-again c =
     let s = b .before .before .before .args in
     let l = c .before .before .before .before .loop in
     let h = c .before .before .before .before .before .put-header in
-    let w = whole (length (s .input .now)) (sym (b .before .is-bad .ensures) ∙ b .if1 .left) in
+    let w = whole (length (s .input .now)) (sym (b .before .bad-bytes .ensures) ∙ b .if1 .left) in
     let e = end-is (h .ensures) in
     let room : h .result + length (lines (s .input .now) (l .k)) ≤ length (h .last .0) =
     omega (arith, length-lines (s .input .now) (l .k), length-header (length (s .input .now) / 4) (omega arith), h .kept .0, c .before .before .before .before .before .before .put-header-arg .given .0 .1) in (
-      rw (add-one (l .k)) (next (h .last .0) (h .result) (lines (s .input .now) (l .k)) room (line (4 * l .k) (wordAt (s .input .now) (l .k)))
+      rw (add-one (l .k)) (next (h .last .0) (h .result) (lines (s .input .now) (l .k)) room (line (4 * l .k) (numberAt 4 (s .input .now) (4 * l .k)))
           (l .at) (l .out) (c .put-line .result) (c .put-line .last .0) (l .inv .0) (rw (c .before .word-at .ensures) at (c .put-line .ensures))),
       omega arith,
     )
@@ -60,9 +61,9 @@ returns-2 c =
     let s = b .before .before .before .args in
     let l = c .before .loop in
     let h = c .before .before .put-header in
-    let w = whole (length (s .input .now)) (sym (b .before .is-bad .ensures) ∙ b .if1 .left) in
+    let w = whole (length (s .input .now)) (sym (b .before .bad-bytes .ensures) ∙ b .if1 .left) in
     let k : l .k ≡ length (s .input .now) / 4 = omega arith in
-    rw (sym (b .before .is-bad .ensures) ∙ b .if1 .left)
+    rw (sym (b .before .bad-bytes .ensures) ∙ b .if1 .left)
     (next (s .out .now) 0 (header (length (s .input .now) / 4))
     (omega (arith, length-header (length (s .input .now) / 4) (omega arith), c .before .before .before .put-header-arg .given .0 .1))
     (lines (s .input .now) (length (s .input .now) / 4)) (h .result) (h .last .0) (l .at) (l .out) (h .ensures) (rw k at (l .inv .0)))
@@ -77,12 +78,13 @@ list-spec =
     (λ c. search needs)
     (λ c κs. search needs)
     returns
-    (λ c. let b = c .before in let w = whole (length (b .before .before .before .args .input .now)) (sym (b .before .is-bad .ensures) ∙ b .if1 .left) in omega arith)
-    (λ c κs. let b = c .before in let w = whole (length (b .before .before .before .args .input .now)) (sym (b .before .is-bad .ensures) ∙ b .if1 .left) in (omega (arith, c .put-header-arg .given .0 .1), omega arith))
+    (λ c. let b = c .before in let w = whole (length (b .before .before .before .args .input .now)) (sym (b .before .bad-bytes .ensures) ∙ b .if1 .left) in omega arith)
+    (λ c κs. let b = c .before in let w = whole (length (b .before .before .before .args .input .now)) (sym (b .before .bad-bytes .ensures) ∙ b .if1 .left) in (omega (arith, c .put-header-arg .given .0 .1), omega arith))
     loop-holds
-    (λ c. let b = c .before .before .before .before .before in let w = whole (length (b .before .before .before .args .input .now)) (sym (b .before .is-bad .ensures) ∙ b .if1 .left) in omega arith)
-    (λ c. let b = c .before .before .before .before .before in let w = whole (length (b .before .before .before .args .input .now)) (sym (b .before .is-bad .ensures) ∙ b .if1 .left) in omega arith)
-    (λ c κs. let b = c .before .before .before .before .before in let w = whole (length (b .before .before .before .args .input .now)) (sym (b .before .is-bad .ensures) ∙ b .if1 .left) in omega arith)
+    (λ c. let b = c .before .before .before .before .before in let w = whole (length (b .before .before .before .args .input .now)) (sym (b .before .bad-bytes .ensures) ∙ b .if1 .left) in omega arith)
+    (λ c. let b = c .before .before .before .before .before in let w = whole (length (b .before .before .before .args .input .now)) (sym (b .before .bad-bytes .ensures) ∙ b .if1 .left) in omega arith)
+    (λ c. let b = c .before .before .before .before .before in let w = whole (length (b .before .before .before .args .input .now)) (sym (b .before .bad-bytes .ensures) ∙ b .if1 .left) in omega arith)
+    (λ c κs. search needs)
     put-line-requires
     (λ c. omega arith)
     (λ c. omega arith)

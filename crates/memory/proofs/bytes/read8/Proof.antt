@@ -2,7 +2,7 @@
 use native.Mathlib.Nat.{add-zero}
 use native.Mathlib.Omega.{arith}
 use borrow.Author.Needs.{needs}
-use Rattle.memory.specs.Bytes.{numberAt}
+use Rattle.little_endian.specs.Numbers.{numberAt}
 use Rattle.memory.proofs.bytes.read8.Statement.{statement}
 use Rattle.memory.proofs.bytes.read8.Tie as tie
 

@@ -3,7 +3,7 @@ use mathlib.Core.Path.{refl}
 use native.Mathlib.Omega.{arith}
 use lib.ListN.{length-set}
 use borrow.Author.Needs.{needs}
-use Rattle.memory.specs.Bytes.{withNumber}
+use Rattle.little_endian.specs.Numbers.{withNumber}
 use Rattle.memory.proofs.bytes.write16.Statement.{statement}
 use Rattle.memory.proofs.bytes.write16.Tie as tie
 

@@ -3,7 +3,7 @@ use native.Mathlib.Nat.{add-assoc, div-div-eq-div-mul}
 use native.Mathlib.Omega.{arith}
 use lib.ListN.{length-set}
 use borrow.Author.Needs.{needs}
-use Rattle.memory.specs.Bytes.{withNumber}
+use Rattle.little_endian.specs.Numbers.{withNumber}
 use Rattle.memory.proofs.bytes.write32.Statement.{statement}
 use Rattle.memory.proofs.bytes.write32.Tie as tie
 

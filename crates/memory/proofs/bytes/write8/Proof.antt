@@ -2,7 +2,7 @@
 use mathlib.Core.Path.{refl}
 use lib.ListN.{length-set}
 use borrow.Author.Needs.{needs}
-use Rattle.memory.specs.Bytes.{withNumber}
+use Rattle.little_endian.specs.Numbers.{withNumber}
 use Rattle.memory.proofs.bytes.write8.Statement.{statement}
 use Rattle.memory.proofs.bytes.write8.Tie as tie
 

@@ -3,7 +3,7 @@ use mathlib.Core.Path.{refl}
 use Prim.Native.Nat.{_+_, _-_, _*_}
 use borrow.Author.Needs.{needs}
 use Rattle.vector.proofs.Filling.{Filling, start, more, whole}
-use Rattle.memory.specs.Bytes.{numberAt}
+use Rattle.little_endian.specs.Numbers.{numberAt}
 use Rattle.memory.specs.Operation.{lanesAt}
 use Rattle.memory.proofs.lanes.read_lanes.Statement.{statement}
 use Rattle.memory.proofs.lanes.read_lanes.Tie as tie

@@ -3,7 +3,7 @@ use mathlib.Core.Bool.{cond}
 use Prim.Native.Nat.{_+_, _-_, _*_}
 use borrow.Author.Needs.{needs}
 use Rattle.vector.specs.Lanes.{lane, isOn}
-use Rattle.memory.specs.Bytes.{withNumber}
+use Rattle.little_endian.specs.Numbers.{withNumber}
 use Rattle.memory.specs.Operation.{withLanes}
 use Rattle.memory.proofs.Stepping.{Stepping, start, more, whole}
 use Rattle.memory.proofs.lanes.write_lanes.Statement.{statement}

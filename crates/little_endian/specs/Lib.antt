@@ -1,0 +1,2 @@
+-- Numbers in bytes: what the contracts cite.
+pub mod Numbers

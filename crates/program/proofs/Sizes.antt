@@ -1,0 +1,28 @@
+-- The size of an input that is not refused.
+use Prim.Native.Nat.{ℕ, _/_, _%_, _≤_, _*_}
+use mathlib.Core.Bool.{Bool, true, false, _||_, not}
+use mathlib.Core.Path.{_≡_, refl}
+use native.Mathlib.Omega.{arith}
+use lib.Dec.{eqb, ltb}
+use borrow.Author.Tests.{eqb-true, ltb-false, not-false}
+use Rattle.answer.specs.Refusal.{programWords, badProgram}
+use Rattle.program.specs.Program.{badBytes}
+
+-- both tests of a sum fail
+or-left : (a b : Bool) → (a || b) ≡ false → a ≡ false
+or-left true b e = e
+or-left false b e = refl
+
+or-right : (a b : Bool) → (a || b) ≡ false → b ≡ false
+or-right true b e = let z : _≡_ {A = ℕ} 0 1 = cc in absurd (omega arith)
+or-right false b e = e
+
+pub record Whole (n : ℕ) : Type 0 where
+  pub words : n % 4 ≡ 0
+  pub small : n ≤ 4 * programWords
+
+pub whole : (n : ℕ) → badBytes n ≡ false → Whole n
+whole n e =
+    let words : n % 4 ≡ 0 = eqb-true _ _ (not-false _ (or-left (not (eqb (n % 4) 0)) (badProgram (n / 4)) e)) in
+    let few = ltb-false programWords (n / 4) (or-right (eqb (n / 4) 0) (ltb programWords (n / 4)) (or-right (not (eqb (n % 4) 0)) (badProgram (n / 4)) e)) in
+    record { words = words; small = omega (arith, words, few) }

@@ -1,0 +1,2 @@
+-- A program's bytes: what the contracts cite.
+pub mod Program

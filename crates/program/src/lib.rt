@@ -1,0 +1,5 @@
+// A program's bytes: their words, and whether they are a program (number 1 of document 01's table).
+mod reading;
+
+pub use reading::bad_bytes;
+pub use reading::words;
