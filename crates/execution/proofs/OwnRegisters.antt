@@ -9,8 +9,7 @@ use lib.ListN.{length, getD, set, length-set}
 use lib.Seq.{getD-set-other}
 use Rattle.bits.specs.Bit.{isSet}
 use Rattle.machine.specs.State.{scalarPlace, lanePlace}
-use Rattle.memory.specs.Operation.{each}
-use Rattle.vector.specs.Lanes.{lane, blended}
+use Rattle.vector.specs.Lanes.{each, lane, blended}
 use Rattle.execution.specs.Claims.{SameRegisters}
 use Rattle.execution.specs.Immediate.{moveImmediate}
 use Rattle.execution.specs.Operation.{binaryInto, unaryInto, compareInto, shuffleInto, getLaneInto, operate, operateR, operateI}

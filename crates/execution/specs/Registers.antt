@@ -5,8 +5,7 @@ use mathlib.Core.Path.{_≡_}
 use lib.ListN.{length, getD, set}
 use Rattle.answer.specs.Refusal.{roomWords}
 use Rattle.machine.specs.State.{scalarPlace, lanePlace, laneMaskRegister, programCounterRegister}
-use Rattle.vector.specs.Lanes.{tab, lane, blended}
-use Rattle.memory.specs.Operation.{each}
+use Rattle.vector.specs.Lanes.{each, tab, lane, blended}
 
 abbrev pub scalar : List ℕ → ℕ → ℕ → ℕ
 scalar room t i = getD room (scalarPlace t i) 0

@@ -9,12 +9,12 @@ use lib.Dec.{ltb}
 use lib.ListN.{length}
 use lib.Pow.{pow-pos}
 use borrow.Author.Tests.{ltb-true, ltb-false}
-use Rattle.vector.specs.Lanes.{lane, isOn}
+use Rattle.vector.specs.Lanes.{each, lane, isOn}
 use Rattle.vector.proofs.Filling.{tab-lane}
 use Rattle.memory.specs.Attempt.{Attempt, done, trap, onward}
 use Rattle.little_endian.specs.Numbers.{numberAt, withNumber}
 use Rattle.memory.specs.Claims.{LoadAfterStore, LanesAfterStore}
-use Rattle.memory.specs.Operation.{widened, scalarPlace, vectorPlace, changed, load, store, each, withLanes, storeLanes, lanesAt, gathered, loadLanes}
+use Rattle.memory.specs.Operation.{widened, scalarPlace, vectorPlace, changed, load, store, withLanes, storeLanes, lanesAt, gathered, loadLanes}
 use Rattle.memory.specs.Place.{lifted}
 use Rattle.memory.specs.Types.{Load8, Load16, Load32, Load8u, Load16u}
 use Rattle.little_endian.proofs.Numbers.{kept-number, other-number, back}

@@ -9,14 +9,14 @@ use lib.IntN.{pos, negsuc, subℕ, _+ℤ_}
 use lib.ListN.{length}
 use borrow.Author.Tests.{leb-true, leb-false, lt-ltb, le-ltb, ltb-true, ltb-false}
 use Rattle.alu.specs.Word.{value}
-use Rattle.vector.specs.Lanes.{lane, isOn}
+use Rattle.vector.specs.Lanes.{each, lane, isOn}
 use Rattle.vector.proofs.Filling.{tab-length}
 use Rattle.alu.proofs.Signed.{value-positive, value-negative}
 use Rattle.little_endian.proofs.Numbers.{kept-number}
 use Rattle.memory.specs.Place.{lifted, place}
 use Rattle.memory.specs.Attempt.{Attempt, done, trap}
 use Rattle.little_endian.specs.Numbers.{numberAt, withNumber}
-use Rattle.memory.specs.Operation.{bytesStored, scalarPlace, vectorPlace, changed, load, store, each, withLanes, storeLanes, lanesAt, gathered, loadLanes}
+use Rattle.memory.specs.Operation.{bytesStored, scalarPlace, vectorPlace, changed, load, store, withLanes, storeLanes, lanesAt, gathered, loadLanes}
 use Rattle.memory.specs.Claims.{AddressIsSum, Figures, Rows, Lengths}
 
 -- two differences that are the same

@@ -5,7 +5,7 @@ use Prim.Native.Nat.{ℕ, _+_, _≤_, _<_}
 use native.Mathlib.Numerals.{add-one}
 use native.Mathlib.Omega.{arith}
 use lib.ListN.{length}
-use Rattle.memory.specs.Operation.{each}
+use Rattle.vector.specs.Lanes.{each}
 
 -- r is m after the first j of n steps
 pub record Stepping (n : ℕ) (g : ℕ → List ℕ → List ℕ) (m r : List ℕ) (j : ℕ) : Type 0 where

@@ -1,10 +1,10 @@
 -- Loads and stores (document 01, "The words", M).
-use Prim.Native.Nat.{ℕ, zero, suc, _+_, _*_}
+use Prim.Native.Nat.{ℕ, _+_, _*_}
 use mathlib.Core.Bool.{cond}
 use mathlib.Core.List.{List}
 use lib.ListN.{length}
 use Rattle.alu.specs.Unary.{unary}
-use Rattle.vector.specs.Lanes.{tab, lane, isOn}
+use Rattle.vector.specs.Lanes.{tab, each, lane, isOn}
 use Rattle.memory.specs.Types.{LoadOp, Load8, Load16, Load32, Load8u, Load16u, StoreOp, Store8, Store16, Store32, Sext8, Sext16, Access, LoadedLanes}
 use Rattle.memory.specs.Attempt.{Attempt, done, trap, onward, ofAccess}
 use Rattle.memory.specs.Place.{lifted, place}
@@ -81,11 +81,6 @@ gathered (trap reason) m = record { answer = trap reason; lanes = tab 16 (λ j. 
 
 unfoldable pub loadLanes : List ℕ → ℕ → ℕ → Gathered
 loadLanes m base offset = gathered (vectorPlace m base offset) m
-
--- g 0, then g 1, .., then g (n - 1)
-unfoldable pub each : ℕ → (ℕ → List ℕ → List ℕ) → List ℕ → List ℕ
-each zero g m = m
-each (suc n) g m = g n (each n g m)
 
 -- the lanes that are on stored from place a on
 unfoldable pub withLanes : List ℕ → ℕ → ℕ → List ℕ → List ℕ

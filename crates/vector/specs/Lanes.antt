@@ -14,6 +14,11 @@ unfoldable pub tab : ℕ → (ℕ → ℕ) → List ℕ
 tab zero f = []
 tab (suc n) f = tab n f ++ f n ∷ []
 
+-- g 0, then g 1, .., then g (n - 1)
+unfoldable pub each : ℕ → (ℕ → List ℕ → List ℕ) → List ℕ → List ℕ
+each zero g l = l
+each (suc n) g l = g n (each n g l)
+
 abbrev pub lane : List ℕ → ℕ → ℕ
 lane v j = getD v j 0
 
