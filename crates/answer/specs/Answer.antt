@@ -11,7 +11,7 @@ pub data Answer (A : Type 0) : Type 0 where
 abbrev pub bad-program : ℕ
 bad-program = 1
 
--- "2: register room is not 8,704 words"
+-- "2: register file is not 8,704 words"
 abbrev pub bad-registers : ℕ
 bad-registers = 2
 

@@ -10,30 +10,30 @@ use Rattle.answer.specs.Refusal.{badProgram, badMask, fixedPart, check, 
 unfoldable pub FirstIsGiven : Type 0
 FirstIsGiven = firstThatApplies (check 1 false ∷ check 2 true ∷ check 3 true ∷ []) ≡ some 2
 
--- the lengths of a register room, a memory and an image, and the number given
-pub record Row : Type 0 where
-  pub room : ℕ
+-- the lengths of a register file, a memory and an image, and the number given
+pub record Figure : Type 0 where
+  pub registers : ℕ
   pub bytes : ℕ
   pub size : ℕ
   pub number : Option ℕ
 
-abbrev row : ℕ → ℕ → ℕ → Option ℕ → Row
-row room bytes size number = record { room = room; bytes = bytes; size = size; number = number }
+abbrev row : ℕ → ℕ → ℕ → Option ℕ → Figure
+row registers bytes size number = record { registers = registers; bytes = bytes; size = size; number = number }
 
-abbrev pub rows : List Row
+abbrev pub rows : List Figure
 rows =
     -- 2 before 3 before 9
     row 0 0 0 (some 2) ∷ row 8704 0 0 (some 3) ∷ row 8704 64 0 (some 9) ∷ row 8704 64 37016 none ∷
-    -- "register room is not 8,704 words"
+    -- "register file is not 8,704 words"
     row 8703 64 37016 (some 2) ∷ row 8705 64 37016 (some 2) ∷
     -- "a multiple of 64, from 64 to 65,536"
     row 8704 32 37016 (some 3) ∷ row 8704 96 37016 (some 3) ∷ row 8704 65600 106648 (some 3) ∷ row 8704 65536 106580 none ∷
     -- "36,948 + 68 x (memory length / 64)"
     row 8704 128 37016 (some 9) ∷ row 8704 128 37084 none ∷ []
 
-abbrev pub All : List Row → Type 0
+abbrev pub All : List Figure → Type 0
 All [] = Unit {0}
-All (r ∷ rs) = (sizesNumber fixedPart (r .room) (r .bytes) (r .size) ≡ r .number) × All rs
+All (r ∷ rs) = (sizesNumber fixedPart (r .registers) (r .bytes) (r .size) ≡ r .number) × All rs
 
 unfoldable pub RowsHold : Type 0
 RowsHold = All rows

@@ -12,8 +12,8 @@ use Rattle.answer.specs.declared.refusal.Verdict.the-variants.{Accepted,
 abbrev pub programWords : ℕ
 programWords = 16384
 
-abbrev pub roomWords : ℕ
-roomWords = 8704
+abbrev pub registerWords : ℕ
+registerWords = 8704
 
 -- "Data memory: lent bytes, a multiple of 64, from 64 to 65,536.": blocks of so many bytes, and so many bytes at the most
 abbrev pub blockBytes : ℕ
@@ -26,9 +26,9 @@ memoryBytes = 65536
 abbrev pub badProgram : ℕ → Bool
 badProgram words = eqb words 0 || ltb programWords words
 
--- "register room is not 8,704 words"
+-- "register file is not 8,704 words"
 abbrev pub badRegisters : ℕ → Bool
-badRegisters words = not (eqb words roomWords)
+badRegisters words = not (eqb words registerWords)
 
 -- "memory length is not allowed": "a multiple of 64, from 64 to 65,536"
 abbrev pub badMemory : ℕ → Bool
@@ -66,32 +66,32 @@ unfoldable pub firstThatApplies : List Check → Option ℕ
 firstThatApplies [] = none
 firstThatApplies (c ∷ cs) = cond (c .applies) (some (c .number)) (firstThatApplies cs)
 
--- what a run takes of lengths: a program and a register room of so many words, a memory of so many bytes
+-- what a run takes of lengths: a program and a register file of so many words, a memory of so many bytes
 abbrev pub lengthChecks : ℕ → ℕ → ℕ → List Check
-lengthChecks words room bytes =
+lengthChecks words registers bytes =
     check bad-program (badProgram words)
-    ∷ check bad-registers (badRegisters room)
+    ∷ check bad-registers (badRegisters registers)
     ∷ check bad-memory (badMemory bytes)
     ∷ []
 
 unfoldable pub lengthsNumber : ℕ → ℕ → ℕ → Option ℕ
-lengthsNumber words room bytes = firstThatApplies (lengthChecks words room bytes)
+lengthsNumber words registers bytes = firstThatApplies (lengthChecks words registers bytes)
 
--- what both calls of an image take: the fixed part of its length, a register room of so many words, a memory and an image of so many bytes
+-- what both calls of an image take: the fixed part of its length, a register file of so many words, a memory and an image of so many bytes
 abbrev pub sizeChecks : ℕ → ℕ → ℕ → ℕ → List Check
-sizeChecks fixed room bytes size =
-    check bad-registers (badRegisters room)
+sizeChecks fixed registers bytes size =
+    check bad-registers (badRegisters registers)
     ∷ check bad-memory (badMemory bytes)
     ∷ check bad-length (badLength fixed bytes size)
     ∷ []
 
 unfoldable pub sizesNumber : ℕ → ℕ → ℕ → ℕ → Option ℕ
-sizesNumber fixed room bytes size = firstThatApplies (sizeChecks fixed room bytes size)
+sizesNumber fixed registers bytes size = firstThatApplies (sizeChecks fixed registers bytes size)
 
 -- the number of a refused call, as the code says it
-abbrev pub numbered : Verdict → Option ℕ
-numbered Accepted = none
-numbered (Refused number) = some number
+abbrev pub numberOf : Verdict → Option ℕ
+numberOf Accepted = none
+numberOf (Refused number) = some number
 
 -- what a call gives: one thing if it is refused, by its number, and another if it is not
 abbrev pub refusedOr : {A : Type 0} → Option ℕ → (ℕ → A) → A → A

@@ -2,7 +2,7 @@
 ghost use Prim.Native.Nat.{_≤_};
 ghost use mathlib.Core.Option.{some};
 ghost use mathlib.Core.Path.{_≡_};
-ghost use Rattle.answer.specs.Refusal.{memoryBytes, badProgram, badRegisters, badMemory, badMask, badLength, numbered, refusedOr, lengthsNumber, sizesNumber};
+ghost use Rattle.answer.specs.Refusal.{memoryBytes, badProgram, badRegisters, badMemory, badMask, badLength, numberOf, refusedOr, lengthsNumber, sizesNumber};
 
 // What a call's checks say; Refused carries a number of the table.
 pub enum Verdict {
@@ -10,7 +10,7 @@ pub enum Verdict {
     Refused(u8),
 }
 
-// The most words of a program, and the words of a register room.
+// The most words of a program, and the words of a register file.
 pub const PROGRAM_WORDS: usize = 16384;
 
 pub const ROOM_WORDS: usize = 8704;
@@ -27,7 +27,7 @@ pub fn bad_program(words: usize) -> bool
     (words == 0) | (PROGRAM_WORDS < words)
 }
 
-// Whether a register room's length is not allowed.
+// Whether a register file's length is not allowed.
 pub fn bad_registers(words: usize) -> bool
     ensures { λ r. ⌜ r ≡ badRegisters words ⌝ }
 {
@@ -50,7 +50,7 @@ pub fn bad_mask(mask: u32) -> bool
 
 // The first of two verdicts that refuses.
 pub fn first_refusal(first: Verdict, then: Verdict) -> Verdict
-    ensures { λ r. ⌜ numbered r ≡ refusedOr (numbered first) some (numbered then) ⌝ }
+    ensures { λ r. ⌜ numberOf r ≡ refusedOr (numberOf first) some (numberOf then) ⌝ }
 {
     match first {
         Verdict::Accepted => then,
@@ -58,17 +58,17 @@ pub fn first_refusal(first: Verdict, then: Verdict) -> Verdict
     }
 }
 
-// The number that a run's lengths are refused with, if any: of the words of a program and of a register room, and the bytes of a memory.
-pub fn lengths_verdict(words: usize, room: usize, bytes: usize) -> Verdict
-    ensures { λ r. ⌜ numbered r ≡ lengthsNumber words room bytes ⌝ }
+// The number that a run's lengths are refused with, if any: of the words of a program and of a register file, and the bytes of a memory.
+pub fn lengths_verdict(words: usize, registers: usize, bytes: usize) -> Verdict
+    ensures { λ r. ⌜ numberOf r ≡ lengthsNumber words registers bytes ⌝ }
 {
     let wrong_program = bad_program(words);
-    let wrong_room = bad_registers(room);
+    let wrong_registers = bad_registers(registers);
     let wrong_memory = bad_memory(bytes);
     if wrong_program {
         return Verdict::Refused(1);
     }
-    if wrong_room {
+    if wrong_registers {
         return Verdict::Refused(2);
     }
     if wrong_memory {
@@ -90,14 +90,14 @@ fn bad_length(fixed: u32, bytes: usize, size: usize) -> bool
     size != fixed as usize + BLOCK_RECORD * (bytes / BLOCK_BYTES)
 }
 
-// The number that an image's call is refused with, if any: of the fixed part of its length, the words of a register room, the bytes
+// The number that an image's call is refused with, if any: of the fixed part of its length, the words of a register file, the bytes
 // of a memory, and those of an image.
-pub fn sizes_verdict(fixed: u32, room: usize, bytes: usize, size: usize) -> Verdict
-    ensures { λ r. ⌜ numbered r ≡ sizesNumber fixed room bytes size ⌝ }
+pub fn sizes_verdict(fixed: u32, registers: usize, bytes: usize, size: usize) -> Verdict
+    ensures { λ r. ⌜ numberOf r ≡ sizesNumber fixed registers bytes size ⌝ }
 {
-    let wrong_room = bad_registers(room);
+    let wrong_registers = bad_registers(registers);
     let wrong_memory = bad_memory(bytes);
-    if wrong_room {
+    if wrong_registers {
         return Verdict::Refused(2);
     }
     if wrong_memory {

@@ -66,9 +66,9 @@ or-none none = refl
 or-none (some n) = refl
 
 -- no number of the table is 0, which a call answers that is not refused
-not-zero : (words room bytes n : ℕ) → lengthsNumber words room bytes ≡ some n → eqb n 0 ≡ false
+not-zero : (words registers bytes n : ℕ) → lengthsNumber words registers bytes ≡ some n → eqb n 0 ≡ false
 unfolding lengthsNumber firstThatApplies
-not-zero words room bytes n = go (badProgram words) (badRegisters room) (badMemory bytes)
+not-zero words registers bytes n = go (badProgram words) (badRegisters registers) (badMemory bytes)
   where
     go : (x y z : Bool) → cond x (some 1) (cond y (some 2) (cond z (some 3) none)) ≡ some n → eqb n 0 ≡ false
     go true y z e = let f : 1 ≡ n = cc in subst (λ k. eqb k 0 ≡ false) f refl

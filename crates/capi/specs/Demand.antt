@@ -48,7 +48,7 @@ told r =
 abbrev pub asCall : RunCall → Call
 asCall c = record { program = c .program; budget = c .budget; outcome = told (c .ran) }
 
--- Whatever the register room and memory, and for every record whose bytes are accepted, demand 3 holds of the list.
+-- Whatever the register file and memory, and for every record whose bytes are accepted, demand 3 holds of the list.
 abbrev pub BoardDemandHolds : Type 0
 BoardDemandHolds = (calls : List RunCall) (registers memory opening : List ℕ) → openingNumber opening ≡ none
     → RunCalls calls registers memory opening

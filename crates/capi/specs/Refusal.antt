@@ -6,7 +6,7 @@ use lib.ListN.{length}
 use Rattle.answer.specs.Refusal.{fixedPart, firstThatApplies, lengthChecks, sizeChecks}
 use Rattle.image.specs.Opening.{openingChecks}
 
--- "A call checks in the order 1, 2, 3, 5, 9, 10, 4": a run takes a program, a register room, a memory, and a record's bytes
+-- "A call checks in the order 1, 2, 3, 5, 9, 10, 4": a run takes a program, a register file, a memory, and a record's bytes
 unfoldable pub runNumber : List ℕ → List ℕ → List ℕ → List ℕ → Option ℕ
 runNumber program registers memory opening =
     firstThatApplies (lengthChecks (length program) (length registers) (length memory) ++ openingChecks opening)

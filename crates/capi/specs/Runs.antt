@@ -10,7 +10,7 @@ use Rattle.interpreter.specs.Start.{Beginning, start}
 use Rattle.capi.specs.Answer.{numberOf, endingOf}
 use Rattle.capi.specs.Refusal.{runNumber}
 
--- what a start answers and leaves: the register room, and the bytes of the record
+-- what a start answers and leaves: the register file, and the bytes of the record
 pub record Begun : Type 0 where
   pub answer : ℕ
   pub registers : List ℕ
@@ -26,7 +26,7 @@ beginning b = begun (numberOf (b .answer)) (b .registers) (recordBytes (b .machi
 unfoldable pub startCall : ℕ → List ℕ → Begun
 startCall mask registers = beginning (start mask registers)
 
--- what a run answers and leaves: how it ended and its issues, the register room, the memory, and the bytes of the record
+-- what a run answers and leaves: how it ended and its issues, the register file, the memory, and the bytes of the record
 pub record Ran : Type 0 where
   pub answer : ℕ
   pub result : List ℕ

@@ -9,17 +9,17 @@ use lib.Bits.{bitAnd, bitOr, and-zero-l, and-comm, and-mask, and-le-l, and-mod, 
 use lib.Dec.{eqb, lit<}
 use lib.Pow.{pow-pos, pow-lt, shl-exact, mod-pow-add}
 use Rattle.vector.specs.Lanes.{isOn}
-use Rattle.compares.specs.Lanes.{bits}
+use Rattle.compares.specs.Lanes.{maskBelow}
 use Rattle.compares.specs.Outcome.{flagsOf}
 
 at-most : (t : Bool) (n : ℕ) → cond t n 0 ≤ n
 at-most true n = omega arith
 at-most false n = omega arith
 
-bits-lt : (n : ℕ) (f : ℕ → Bool) → bits n f < 2 ^ n
-unfolding bits
-bits-lt zero f = omega arith
-bits-lt (suc n) f = omega (arith, bits-lt n f, at-most (f n) (2 ^ n), pow-suc 2 n)
+maskBelow-lt : (n : ℕ) (f : ℕ → Bool) → maskBelow n f < 2 ^ n
+unfolding maskBelow
+maskBelow-lt zero f = omega arith
+maskBelow-lt (suc n) f = omega (arith, maskBelow-lt n f, at-most (f n) (2 ^ n), pow-suc 2 n)
 
 -- the lane's bit of an answer
 one-bit : (t : Bool) (j : ℕ) → j < 16 → bitAnd (flagsOf t) (1 * 2 ^ j % 2 ^ 32) ≡ cond t (2 ^ j) 0
@@ -37,24 +37,24 @@ joined false j r h = or-zero-r r ∙ omega arith
 -- r has the answers of the first j lanes
 pub record Collecting (f : ℕ → Bool) (r j : ℕ) : Type 0 where
   pub within : j ≤ 16
-  pub done : r ≡ bits j f
+  pub done : r ≡ maskBelow j f
 
 pub start : (f : ℕ → Bool) → Collecting f 0 0
-unfolding bits
+unfolding maskBelow
 start f = record { within = omega arith; done = refl }
 
 pub more : {f : ℕ → Bool} {r j x : ℕ} → Collecting f r j → j < 16 → x ≡ flagsOf (f j) → Collecting f (bitOr r (bitAnd x (1 * 2 ^ j % 2 ^ 32))) (j + 1)
-unfolding bits
+unfolding maskBelow
 more {f} {r} {j} {x} h l e = record {
   within = omega arith;
   done =
       ap₂ (λ (m n : ℕ). bitOr m (bitAnd n (1 * 2 ^ j % 2 ^ 32))) (h .done) e
-      ∙ ap (bitOr (bits j f)) (one-bit (f j) j l)
-      ∙ joined (f j) j (bits j f) (bits-lt j f)
-      ∙ ap (λ (n : ℕ). bits n f) (sym (add-one j));
+      ∙ ap (bitOr (maskBelow j f)) (one-bit (f j) j l)
+      ∙ joined (f j) j (maskBelow j f) (maskBelow-lt j f)
+      ∙ ap (λ (n : ℕ). maskBelow n f) (sym (add-one j));
 }
 
-pub whole : {f : ℕ → Bool} {r j : ℕ} → Collecting f r j → 16 ≤ j → r ≡ bits 16 f
+pub whole : {f : ℕ → Bool} {r j : ℕ} → Collecting f r j → 16 ≤ j → r ≡ maskBelow 16 f
 whole {j = j} h l = let e : j ≡ 16 = omega (arith, h .within) in rw e at (h .done)
 
 -- ---- a mask keeps the answers of the lanes that are on
@@ -75,18 +75,18 @@ unfolding digit
 top true n r = omega arith
 top false n r = omega arith
 
-low : (n mask : ℕ) (f : ℕ → Bool) → bitAnd (bits n f) (mask % 2 ^ n) ≡ bits n (λ j. isOn mask j && f j)
-unfolding bits
+low : (n mask : ℕ) (f : ℕ → Bool) → bitAnd (maskBelow n f) (mask % 2 ^ n) ≡ maskBelow n (λ j. isOn mask j && f j)
+unfolding maskBelow
 low zero mask f = and-zero-l (mask % 1)
 low (suc n) mask f =
-    ap₂ bitAnd (sym (top (f n) n (bits n f))) (ap (λ (k : ℕ). mask % 2 ^ k) (sym (one-add n)) ∙ mod-pow-add mask 1 n)
-    ∙ and-block n (digit (f n)) (mask / 2 ^ n % 2) (bits n f) (mask % 2 ^ n) (bits-lt n f) (mod-lt mask (pow-pos n))
+    ap₂ bitAnd (sym (top (f n) n (maskBelow n f))) (ap (λ (k : ℕ). mask % 2 ^ k) (sym (one-add n)) ∙ mod-pow-add mask 1 n)
+    ∙ and-block n (digit (f n)) (mask / 2 ^ n % 2) (maskBelow n f) (mask % 2 ^ n) (maskBelow-lt n f) (mod-lt mask (pow-pos n))
     ∙ ap₂ (λ (a b : ℕ). a * 2 ^ n + b) (and-digit (mask / 2 ^ n % 2) (f n) (omega arith)) (low n mask f)
-    ∙ top (isOn mask n && f n) n (bits n (λ j. isOn mask j && f j))
+    ∙ top (isOn mask n && f n) n (maskBelow n (λ j. isOn mask j && f j))
 
-pub masked : (n mask : ℕ) (f : ℕ → Bool) → bitAnd (bits n f) mask ≡ bits n (λ j. isOn mask j && f j)
+pub masked : (n mask : ℕ) (f : ℕ → Bool) → bitAnd (maskBelow n f) mask ≡ maskBelow n (λ j. isOn mask j && f j)
 masked n mask f =
-    sym (mod-eq-of-lt (let h : bitAnd (bits n f) mask < 2 ^ n = omega (arith, and-le-l (bits n f) mask, bits-lt n f) in h))
-    ∙ and-mod (bits n f) mask n
-    ∙ ap (λ (k : ℕ). bitAnd k (mask % 2 ^ n)) (mod-eq-of-lt (bits-lt n f))
+    sym (mod-eq-of-lt (let h : bitAnd (maskBelow n f) mask < 2 ^ n = omega (arith, and-le-l (maskBelow n f) mask, maskBelow-lt n f) in h))
+    ∙ and-mod (maskBelow n f) mask n
+    ∙ ap (λ (k : ℕ). bitAnd k (mask % 2 ^ n)) (mod-eq-of-lt (maskBelow-lt n f))
     ∙ low n mask f

@@ -7,10 +7,10 @@ use Rattle.vector.specs.Lanes.{lane, isOn}
 use Rattle.isa.specs.declared.instruction.CompareOp.{CompareOp}
 
 -- the number of n bits whose bit j is 1 exactly where f j holds
-unfoldable pub bits : ℕ → (ℕ → Bool) → ℕ
-bits zero f = 0
-bits (suc n) f = bits n f + cond (f n) (2 ^ n) 0
+unfoldable pub maskBelow : ℕ → (ℕ → Bool) → ℕ
+maskBelow zero f = 0
+maskBelow (suc n) f = maskBelow n f + cond (f n) (2 ^ n) 0
 
 -- "give a bit per lane, 0 for lanes that are off and for bits 16-31"
 unfoldable pub compareLanes : CompareOp → ℕ → List ℕ → List ℕ → ℕ
-compareLanes op mask x y = bits 16 (λ j. isOn mask j && compare op (lane x j) (lane y j))
+compareLanes op mask x y = maskBelow 16 (λ j. isOn mask j && compare op (lane x j) (lane y j))

@@ -6,7 +6,7 @@ use Rattle.isa.specs.declared.instruction.CompareOp.{CompareOp}
 use Rattle.isa.specs.declared.instruction.CompareOp.the-variants.{Eq, Ne, Gt, Ge, Lt, Le, Ugt, Uge, Ult, Ule}
 use Rattle.alu.specs.Compare.{compare}
 use Rattle.vector.specs.Lanes.{lane}
-use Rattle.compares.specs.Lanes.{bits}
+use Rattle.compares.specs.Lanes.{maskBelow}
 use Rattle.compares.specs.declared.outcome.Outcomes.{Outcomes}
 
 -- what turns the order that a compare goes by into the unsigned one, added to both operands
@@ -32,4 +32,4 @@ outcomesOf op =
 
 -- the answers of all sixteen lanes
 unfoldable pub answersOf : CompareOp → List ℕ → List ℕ → ℕ
-answersOf op x y = bits 16 (λ j. compare op (lane x j) (lane y j))
+answersOf op x y = maskBelow 16 (λ j. compare op (lane x j) (lane y j))

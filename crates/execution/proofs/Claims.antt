@@ -10,8 +10,8 @@ use Rattle.machine.proofs.Claims.{traps, ends, meets}
 use Rattle.machine.proofs.Arrivals.{arrives-untrapped}
 use Rattle.machine.proofs.Kept.{set-same, set-other, running-entry}
 use Rattle.machine.proofs.Tests.{never}
-use Rattle.machine.specs.Barrier.{refusesMeeting, arrive, meet}
-use Rattle.machine.specs.Claims.{Sound}
+use Rattle.machine.specs.Barrier.{refusesBarrier, arrive, reachBarrier}
+use Rattle.machine.specs.Claims.{KeepsRecord}
 use Rattle.machine.specs.Machine.{statusAt, trap}
 use Rattle.machine.specs.Scheduler.{runs}
 use Rattle.machine.specs.Status.{isRunning}
@@ -22,7 +22,7 @@ use Rattle.execution.specs.Claims.{Performs, Lengths, Issues, Untouched,
 use Rattle.execution.specs.Issue.{
   contextOf,
   executeAt,
-  afterMeeting,
+  afterBarrier,
   settle,
   settled,
   setsStatus,
@@ -35,65 +35,65 @@ use Rattle.execution.specs.Issue.{
 use Rattle.execution.specs.Jump.{inProgram}
 use Rattle.execution.specs.Registers.{programCounter}
 use Rattle.machine.specs.State.{State, state, programCounterRegister}
-use Rattle.execution.specs.Types.{Context, Effect, Stays, Traps, Ends, Meets, Meeting, Ended, Trapped}
+use Rattle.execution.specs.Types.{Context, Effect, Stays, Traps, Ends, ReachesBarrier, BarrierResult, Ended, Trapped}
 
 -- what an issue makes of a state
 record Lawful-issue (s : State) (t : ℕ) (n : State) : Type 0 where
-  sound : Sound (s .machine) t (n .machine)
+  sound : KeepsRecord (s .machine) t (n .machine)
   own : Own t (s .registers) (n .registers)
   bytes : length (n .memory) ≡ length (s .memory)
   traps-only : (reason : ℕ) → runs (s .machine) t ≡ true → statusAt (n .machine) t ≡ Trapped reason → TrapsOnly s t n
 
-meeting-own : (c : Context) (room : List ℕ) (met : Meeting) → Own (c .thread) room (afterMeeting c room met)
-meeting-own c room met = go (met .trapped)
+meeting-own : (c : Context) (regs : List ℕ) (met : BarrierResult) → Own (c .thread) regs (afterBarrier c regs met)
+meeting-own c regs met = go (met .trapped)
   where
-    go : (b : Bool) → Own (c .thread) room (afterMeeting c room (record { trapped = b; machine = met .machine }))
-    go true = own-none (c .thread) room
-    go false = own-scalar (c .thread) room programCounterRegister (c .pc + 4) (omega arith)
+    go : (b : Bool) → Own (c .thread) regs (afterBarrier c regs (record { trapped = b; machine = met .machine }))
+    go true = own-none (c .thread) regs
+    go false = own-scalar (c .thread) regs programCounterRegister (c .pc + 4) (omega arith)
 
 module _ (s : State) (c : Context) where
   -- only a trap leaves the thread trapped
-  settled-trap : (e : Effect) (room memory : List ℕ) → UnlessGoesOn e (room ≡ s .registers) → UnlessGoesOn e (memory ≡ s .memory) → (reason : ℕ)
-      → runs (s .machine) (c .thread) ≡ true → statusAt (settle (s .machine) c room memory e .machine) (c .thread) ≡ Trapped reason
-      → TrapsOnly s (c .thread) (settle (s .machine) c room memory e)
-  unfolding meet
-  settled-trap Stays room memory u v reason r h = never r (ap isRunning h)
-  settled-trap (Traps q) room memory u v reason r h =
+  settled-trap : (e : Effect) (regs memory : List ℕ) → UnlessGoesOn e (regs ≡ s .registers) → UnlessGoesOn e (memory ≡ s .memory) → (reason : ℕ)
+      → runs (s .machine) (c .thread) ≡ true → statusAt (settle (s .machine) c regs memory e .machine) (c .thread) ≡ Trapped reason
+      → TrapsOnly s (c .thread) (settle (s .machine) c regs memory e)
+  unfolding reachBarrier
+  settled-trap Stays regs memory u v reason r h = never r (ap isRunning h)
+  settled-trap (Traps q) regs memory u v reason r h =
       record { registers = u; memory = v; enabled = refl; last = refl; others = set-other (s .machine) (c .thread) (Trapped q) }
-  settled-trap Ends room memory u v reason r h =
+  settled-trap Ends regs memory u v reason r h =
       let e : Ended ≡ Trapped reason = sym (set-same (s .machine) (c .thread) Ended (running-entry (s .machine) (c .thread) r)) ∙ h in
       absurd (let z : _≡_ {A = ℕ} 0 1 = cc in omega arith)
-  settled-trap (Meets id second) room memory u v reason r h = go (refusesMeeting (s .machine) (c .thread) id second) h
+  settled-trap (ReachesBarrier id second) regs memory u v reason r h = go (refusesBarrier (s .machine) (c .thread) id second) h
     where
-      met : Bool → Meeting
+      met : Bool → BarrierResult
       met b =
           cond b
           (record { trapped = true; machine = trap (s .machine) (c .thread) 5 })
           (record { trapped = false; machine = arrive (s .machine) (c .thread) id (second + 1) })
 
-      go : (b : Bool) → statusAt (met b .machine) (c .thread) ≡ Trapped reason → TrapsOnly s (c .thread) (state (met b .machine) (afterMeeting c room (met b)) memory)
+      go : (b : Bool) → statusAt (met b .machine) (c .thread) ≡ Trapped reason → TrapsOnly s (c .thread) (state (met b .machine) (afterBarrier c regs (met b)) memory)
       go true k = record { registers = u; memory = v; enabled = refl; last = refl; others = set-other (s .machine) (c .thread) (Trapped 5) }
       go false k = absurd (arrives-untrapped (s .machine) (c .thread) id (second + 1) reason (running-entry (s .machine) (c .thread) r) k)
 
-  settles : (e : Effect) (room memory : List ℕ) → Reasoned e → Own (c .thread) (s .registers) room → length memory ≡ length (s .memory)
-      → UnlessGoesOn e (room ≡ s .registers) → UnlessGoesOn e (memory ≡ s .memory) → Lawful-issue s (c .thread) (settle (s .machine) c room memory e)
-  settles Stays room memory h k l u v =
+  settles : (e : Effect) (regs memory : List ℕ) → Reasoned e → Own (c .thread) (s .registers) regs → length memory ≡ length (s .memory)
+      → UnlessGoesOn e (regs ≡ s .registers) → UnlessGoesOn e (memory ≡ s .memory) → Lawful-issue s (c .thread) (settle (s .machine) c regs memory e)
+  settles Stays regs memory h k l u v =
       record {
         sound = record { enabled = refl; last = refl; running = λ x n r. r; well-formed = λ w r. w };
         own = k;
         bytes = l;
-        traps-only = settled-trap Stays room memory u v;
+        traps-only = settled-trap Stays regs memory u v;
       }
-  settles (Traps reason) room memory h k l u v =
-      record { sound = traps (s .machine) (c .thread) reason (h .0) (h .1); own = k; bytes = l; traps-only = settled-trap (Traps reason) room memory u v }
-  settles Ends room memory h k l u v =
-      record { sound = ends (s .machine) (c .thread); own = k; bytes = l; traps-only = settled-trap Ends room memory u v }
-  settles (Meets id second) room memory h k l u v =
+  settles (Traps reason) regs memory h k l u v =
+      record { sound = traps (s .machine) (c .thread) reason (h .0) (h .1); own = k; bytes = l; traps-only = settled-trap (Traps reason) regs memory u v }
+  settles Ends regs memory h k l u v =
+      record { sound = ends (s .machine) (c .thread); own = k; bytes = l; traps-only = settled-trap Ends regs memory u v }
+  settles (ReachesBarrier id second) regs memory h k l u v =
       record {
         sound = meets (s .machine) (c .thread) id second;
-        own = own-then k (meeting-own c room (meet (s .machine) (c .thread) id second));
+        own = own-then k (meeting-own c regs (reachBarrier (s .machine) (c .thread) id second));
         bytes = l;
-        traps-only = settled-trap (Meets id second) room memory u v;
+        traps-only = settled-trap (ReachesBarrier id second) regs memory u v;
       }
 
   either : (b : Bool) (x y : State) → Lawful-issue s (c .thread) x → Lawful-issue s (c .thread) y → Lawful-issue s (c .thread) (cond b x y)
@@ -126,12 +126,12 @@ pub issues : Issues
 unfolding issue
 issues p s t a b c = rw (le-leb _ _ a, eq-eqb _ _ b, lt-ltb _ _ c)
 
-settle-untouched : (s : State) (c : Context) (room memory : List ℕ) (e : Effect) → setsStatus e ≡ false →
-    settle (s .machine) c room memory e .machine ≡ s .machine
-settle-untouched s c room memory Stays h = refl
-settle-untouched s c room memory (Traps reason) h = never refl h
-settle-untouched s c room memory Ends h = never refl h
-settle-untouched s c room memory (Meets id second) h = never refl h
+settle-untouched : (s : State) (c : Context) (regs memory : List ℕ) (e : Effect) → setsStatus e ≡ false →
+    settle (s .machine) c regs memory e .machine ≡ s .machine
+settle-untouched s c regs memory Stays h = refl
+settle-untouched s c regs memory (Traps reason) h = never refl h
+settle-untouched s c regs memory Ends h = never refl h
+settle-untouched s c regs memory (ReachesBarrier id second) h = never refl h
 
 pub untouched : Untouched
 unfolding issue issueSetsStatus perform performSetsStatus

@@ -15,20 +15,20 @@ use Rattle.execution.specs.Types.{Context}
 pub before-end : (words address : ℕ) → inProgram words address ≡ true → address < 4 * words
 before-end words address h = ltb-true _ _ (and-right (eqb (address % 4) 0) _ h)
 
-module _ (c : Context) (room linked : List ℕ) where
+module _ (c : Context) (regs linked : List ℕ) where
   -- past the program's end there is no word
-  past : (address : ℕ) → 4 * c .words ≤ address → jumpTo c room linked address ≡ trapped 4 room
+  past : (address : ℕ) → 4 * c .words ≤ address → jumpTo c regs linked address ≡ trapped 4 regs
   unfolding jumpTo
   past address h = none (eqb (address % 4) 0) (ltb address (4 * c .words)) _ (le-ltb _ _ h)
     where
-      none : (b d : Bool) (s : Step) → d ≡ false → cond (b && d) s (trapped 4 room) ≡ trapped 4 room
+      none : (b d : Bool) (s : Step) → d ≡ false → cond (b && d) s (trapped 4 regs) ≡ trapped 4 regs
       none true d s e = rw e
       none false d s e = refl
 
   module _ (offset : ℕ) (w : c .words ≤ 16384) (p : c .pc < 65536) (o : offset < 2 ^ 32) where
     wraps : (negative below : Bool) → leb (2 ^ 31) offset ≡ negative → leb (2 ^ 32) (c .pc + cond negative offset (2 ^ 32 + offset)) ≡ below →
-        jumpTo c room linked ((c .pc + offset) % 2 ^ 32) ≡
-        cond below (jumpTo c room linked (c .pc + cond negative offset (2 ^ 32 + offset) - 2 ^ 32)) (trapped 4 room)
+        jumpTo c regs linked ((c .pc + offset) % 2 ^ 32) ≡
+        cond below (jumpTo c regs linked (c .pc + cond negative offset (2 ^ 32 + offset) - 2 ^ 32)) (trapped 4 regs)
     wraps true true h k =
         let l : 2 ^ 32 ≤ c .pc + offset = leb-true (2 ^ 32) (c .pc + offset) k in
         let e : (c .pc + offset) % 2 ^ 32 ≡ c .pc + offset - 2 ^ 32 = omega arith in
@@ -44,6 +44,6 @@ module _ (c : Context) (room linked : List ℕ) where
         rw e
     wraps false false h k = let m = leb-false (2 ^ 32) (c .pc + (2 ^ 32 + offset)) k in absurd (omega arith)
 
-    pub wrapped : jumpTo c room linked ((c .pc + offset) % 2 ^ 32) ≡ jumpBy c room linked offset
+    pub wrapped : jumpTo c regs linked ((c .pc + offset) % 2 ^ 32) ≡ jumpBy c regs linked offset
     unfolding jumpBy
     wrapped = wraps (leb (2 ^ 31) offset) (leb (2 ^ 32) (c .pc + cond (leb (2 ^ 31) offset) offset (2 ^ 32 + offset))) refl refl

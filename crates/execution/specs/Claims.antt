@@ -4,27 +4,27 @@ use mathlib.Core.Bool.{true, false}
 use mathlib.Core.Path.{_≡_}
 use mathlib.Core.List.{List}
 use lib.ListN.{length, getD}
-use Rattle.answer.specs.Refusal.{programWords, roomWords}
-use Rattle.machine.specs.Claims.{Sound}
+use Rattle.answer.specs.Refusal.{programWords, registerWords}
+use Rattle.machine.specs.Claims.{KeepsRecord}
 use Rattle.machine.specs.Machine.{statusAt}
 use Rattle.machine.specs.Scheduler.{runs}
-use Rattle.machine.specs.State.{State, lanePlace}
+use Rattle.machine.specs.State.{State, laneIndex}
 use Rattle.execution.specs.Issue.{perform, issue, issueSetsStatus}
 use Rattle.execution.specs.Registers.{scalar}
 use Rattle.execution.specs.Types.{Trapped}
 
 -- what an issue makes of the record
 abbrev pub Performs : Type 0
-Performs = (p : List ℕ) (s : State) (t : ℕ) → Sound (s .machine) t (perform p s t .machine)
+Performs = (p : List ℕ) (s : State) (t : ℕ) → KeepsRecord (s .machine) t (perform p s t .machine)
 
 -- an issue changes no length
 pub record Lengths : Type 0 where
   pub of-registers : (p : List ℕ) (s : State) (t : ℕ) → length (perform p s t .registers) ≡ length (s .registers)
   pub of-memory : (p : List ℕ) (s : State) (t : ℕ) → length (perform p s t .memory) ≡ length (s .memory)
 
--- the total form is the rules' own in a room of the right size, for one of the eight threads
+-- the total form is the rules' own in registers of the right size, for one of the eight threads
 abbrev pub Issues : Type 0
-Issues = (p : List ℕ) (s : State) (t : ℕ) → length p ≤ programWords → length (s .registers) ≡ roomWords → t < 8 → issue p s t ≡ perform p s t
+Issues = (p : List ℕ) (s : State) (t : ℕ) → length p ≤ programWords → length (s .registers) ≡ registerWords → t < 8 → issue p s t ≡ perform p s t
 
 -- an issue that sets no status leaves the record
 abbrev pub Untouched : Type 0
@@ -44,10 +44,10 @@ abbrev pub TrapsAlone : Type 0
 TrapsAlone = (p : List ℕ) (s : State) (t reason : ℕ) → runs (s .machine) t ≡ true → statusAt (perform p s t .machine) t ≡ Trapped reason
     → TrapsOnly s t (perform p s t)
 
--- a thread has the same registers in two register rooms
+-- a thread has the same registers in two register files
 pub record SameRegisters (t : ℕ) (before after : List ℕ) : Type 0 where
   pub scalars : (i : ℕ) → i < 64 → scalar after t i ≡ scalar before t i
-  pub lanes : (i j : ℕ) → i < 64 → j < 16 → getD after (lanePlace t i j) 0 ≡ getD before (lanePlace t i j) 0
+  pub lanes : (i j : ℕ) → i < 64 → j < 16 → getD after (laneIndex t i j) 0 ≡ getD before (laneIndex t i j) 0
 
 -- an issue leaves every other thread's registers
 abbrev pub OthersKeepRegisters : Type 0

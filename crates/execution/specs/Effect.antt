@@ -26,7 +26,7 @@ beside s memory = executed (s .effect) (s .registers) memory
 
 -- "A trap changes only that entry's status and "last"."
 abbrev pub trapped : ℕ → List ℕ → Step
-trapped reason room = step (Traps reason) room
+trapped reason regs = step (Traps reason) regs
 
 -- what an issue is told: its thread, the word's own address, the enabled mask, and how many words the program has
 abbrev pub context : ℕ → ℕ → ℕ → ℕ → Context
@@ -34,7 +34,7 @@ context t pc enabled words = record { thread = t; pc = pc; enabled = enabled; wo
 
 -- "Otherwise s63 grows by 4 unless a jump says more."
 abbrev pub advanced : Context → List ℕ → List ℕ
-advanced c room = withProgramCounter room (c .thread) (c .pc + 4)
+advanced c regs = withProgramCounter regs (c .thread) (c .pc + 4)
 
 abbrev pub next : Context → List ℕ → Step
-next c room = step Stays (advanced c room)
+next c regs = step Stays (advanced c regs)

@@ -16,7 +16,7 @@ unfoldable pub replacedLanes : MoveiOp → List ℕ → ℕ → List ℕ
 replacedLanes op old n = tab 16 (λ j. replaced op (lane old j) n)
 
 unfoldable pub moveImmediate : List ℕ → ℕ → MoveiOp → Bool → ℕ → ℕ → List ℕ
-moveImmediate room t op flag d n =
+moveImmediate regs t op flag d n =
     cond flag
-    (withLanesOn room t d (replacedLanes op (vector room t d) n))
-    (withScalar room t d (replaced op (scalar room t d) n))
+    (withLanesOn regs t d (replacedLanes op (vector regs t d) n))
+    (withScalar regs t d (replaced op (scalar regs t d) n))

@@ -8,7 +8,7 @@ use lib.ListN.{length, getD}
 use Rattle.answer.specs.Reason.{undefined-word, outside-program, not-fitted-word}
 use Rattle.answer.specs.Answer.{Answer, given, refused, undefined}
 use Rattle.isa.specs.Read.{read}
-use Rattle.machine.specs.Barrier.{meet}
+use Rattle.machine.specs.Barrier.{reachBarrier}
 use Rattle.machine.specs.Machine.{trap, end}
 use Rattle.execution.specs.Access.{access}
 use Rattle.execution.specs.Control.{control}
@@ -17,18 +17,18 @@ use Rattle.execution.specs.Immediate.{moveImmediate}
 use Rattle.execution.specs.Jump.{inProgram, jump}
 use Rattle.execution.specs.Operation.{operateR, operateI}
 use Rattle.execution.specs.Registers.{programCounter}
-use Rattle.answer.specs.Refusal.{programWords, roomWords}
+use Rattle.answer.specs.Refusal.{programWords, registerWords}
 use Rattle.machine.specs.State.{State, state}
-use Rattle.execution.specs.Types.{Context, Instruction, R, I, Movei, J, C, M, Effect, Stays, Traps, Ends, Meets, Issued, Machine, Meeting}
+use Rattle.execution.specs.Types.{Context, Instruction, R, I, Movei, J, C, M, Effect, Stays, Traps, Ends, ReachesBarrier, Issued, Machine, BarrierResult}
 
 -- what an instruction does
 abbrev pub execute : Context → List ℕ → List ℕ → Instruction → Executed
-execute c room memory (R op flags d a b) = beside (next c (operateR room (c .thread) op flags d a b)) memory
-execute c room memory (I op flags d a immediate) = beside (next c (operateI room (c .thread) op flags d a immediate)) memory
-execute c room memory (Movei op flag d immediate) = beside (next c (moveImmediate room (c .thread) op (eqb flag 1) d immediate)) memory
-execute c room memory (J op register offset) = beside (jump c room op register offset) memory
-execute c room memory (C op first second) = beside (control c room op first second) memory
-execute c room memory (M op register base offset) = access c room memory op register base offset
+execute c regs memory (R op flags d a b) = beside (next c (operateR regs (c .thread) op flags d a b)) memory
+execute c regs memory (I op flags d a immediate) = beside (next c (operateI regs (c .thread) op flags d a immediate)) memory
+execute c regs memory (Movei op flag d immediate) = beside (next c (moveImmediate regs (c .thread) op (eqb flag 1) d immediate)) memory
+execute c regs memory (J op register offset) = beside (jump c regs op register offset) memory
+execute c regs memory (C op first second) = beside (control c regs op first second) memory
+execute c regs memory (M op register base offset) = access c regs memory op register base offset
 
 -- "undefined word (3); not fitted (6)"
 abbrev pub unreadable : ℕ → ℕ
@@ -36,23 +36,23 @@ unreadable number = cond (eqb number undefined) undefined-word not-fitted-word
 
 -- "undefined word (3); not fitted (6); then those of the operation"
 abbrev pub executeRead : Context → List ℕ → List ℕ → Answer Instruction → Executed
-executeRead c room memory (given i) = execute c room memory i
-executeRead c room memory (refused number) = beside (trapped (unreadable number) room) memory
+executeRead c regs memory (given i) = execute c regs memory i
+executeRead c regs memory (refused number) = beside (trapped (unreadable number) regs) memory
 
 unfoldable pub executeWord : Context → List ℕ → List ℕ → ℕ → Executed
-executeWord c room memory w = executeRead c room memory (read w)
+executeWord c regs memory w = executeRead c regs memory (read w)
 
 -- "Else s63 moves on and the thread waits": not where the meeting traps
-abbrev pub afterMeeting : Context → List ℕ → Meeting → List ℕ
-afterMeeting c room met = cond (met .trapped) room (advanced c room)
+abbrev pub afterBarrier : Context → List ℕ → BarrierResult → List ℕ
+afterBarrier c regs met = cond (met .trapped) regs (advanced c regs)
 
 -- what becomes of the machine record
 abbrev pub settle : Machine → Context → List ℕ → List ℕ → Effect → State
-settle m c room memory Stays = state m room memory
-settle m c room memory (Traps reason) = state (trap m (c .thread) reason) room memory
-settle m c room memory Ends = state (end m (c .thread)) room memory
-settle m c room memory (Meets id second) =
-    state (meet m (c .thread) id second .machine) (afterMeeting c room (meet m (c .thread) id second)) memory
+settle m c regs memory Stays = state m regs memory
+settle m c regs memory (Traps reason) = state (trap m (c .thread) reason) regs memory
+settle m c regs memory Ends = state (end m (c .thread)) regs memory
+settle m c regs memory (ReachesBarrier id second) =
+    state (reachBarrier m (c .thread) id second .machine) (afterBarrier c regs (reachBarrier m (c .thread) id second)) memory
 
 abbrev pub settled : Machine → Context → Executed → State
 settled m c x = settle m c (x .registers) (x .memory) (x .effect)
@@ -62,11 +62,11 @@ abbrev pub setsStatus : Effect → Bool
 setsStatus Stays = false
 setsStatus (Traps reason) = true
 setsStatus Ends = true
-setsStatus (Meets id second) = true
+setsStatus (ReachesBarrier id second) = true
 
 -- both as the code hands them back, whatever data memory holds
-pub record Settles (m : Machine) (c : Context) (room : List ℕ) (e : Effect) (r : Issued) (after : List ℕ) : Type 0 where
-  pub left : (memory : List ℕ) → state (r .machine) after memory ≡ settle m c room memory e
+pub record Settles (m : Machine) (c : Context) (regs : List ℕ) (e : Effect) (r : Issued) (after : List ℕ) : Type 0 where
+  pub left : (memory : List ℕ) → state (r .machine) after memory ≡ settle m c regs memory e
   pub told : r .changed ≡ setsStatus e
 
 -- "The word is at the thread's s63."
@@ -96,7 +96,7 @@ performSetsStatus p s t = performSetsStatusAt p s (contextOf p s t)
 
 -- whether the lengths and the thread are such as a run that is not refused comes to
 abbrev pub fits : ℕ → ℕ → ℕ → Bool
-fits words room t = leb words programWords && eqb room roomWords && ltb t 8
+fits words regs t = leb words programWords && eqb regs registerWords && ltb t 8
 
 -- the same for any lengths and any thread number: elsewhere nothing changes
 unfoldable pub issue : List ℕ → State → ℕ → State

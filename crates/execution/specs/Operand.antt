@@ -8,7 +8,7 @@ use Rattle.execution.specs.Types.{Source, Scalar, Vector}
 
 -- the operand in register i, by its vector flag
 abbrev pub source : List ℕ → ℕ → Bool → ℕ → Source
-source room t flag i = cond flag (Vector i) (Scalar (scalar room t i))
+source regs t flag i = cond flag (Vector i) (Scalar (scalar regs t i))
 
 abbrev pub isVector : Source → Bool
 isVector (Scalar x) = false
@@ -21,8 +21,8 @@ word (Vector i) = 0
 
 -- "A scalar among vectors counts as sixteen equal lanes."
 abbrev pub lanes : List ℕ → ℕ → Source → List ℕ
-lanes room t (Scalar x) = splatted x
-lanes room t (Vector i) = vector room t i
+lanes regs t (Scalar x) = splatted x
+lanes regs t (Vector i) = vector regs t i
 
 -- an operand that is a vector register is one of the 64
 abbrev pub Named : Source → Type 0

@@ -3,7 +3,7 @@ pub use Rattle.execution.specs.declared.operand.Source.{Source}
 pub use Rattle.execution.specs.declared.operand.Source.the-variants.{Scalar, Vector}
 pub use Rattle.execution.specs.declared.context.Context.{Context}
 pub use Rattle.execution.specs.declared.effect.Effect.{Effect}
-pub use Rattle.execution.specs.declared.effect.Effect.the-variants.{Stays, Traps, Ends, Meets}
+pub use Rattle.execution.specs.declared.effect.Effect.the-variants.{Stays, Traps, Ends, ReachesBarrier}
 pub use Rattle.execution.specs.declared.issuing.Issued.{Issued}
 pub use Rattle.execution.specs.declared.control.ControlValue.{ControlValue}
 pub use Rattle.execution.specs.declared.control.ControlValue.the-variants.{Known, Unknown}
@@ -26,4 +26,4 @@ pub use Rattle.isa.specs.declared.instruction.Instruction.{Instruction}
 pub use Rattle.isa.specs.declared.instruction.Instruction.the-variants.{R, I, Movei, J, C, M}
 pub use Rattle.machine.specs.declared.record.Machine.{Machine}
 pub use Rattle.machine.specs.declared.status.Status.the-variants.{Ended, Trapped}
-pub use Rattle.machine.specs.declared.barrier.Meeting.{Meeting}
+pub use Rattle.machine.specs.declared.barrier.BarrierResult.{BarrierResult}

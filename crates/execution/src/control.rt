@@ -3,7 +3,7 @@ ghost use mathlib.Core.Path.{_≡_};
 ghost use Prim.Native.Nat.{_<_};
 ghost use Rattle.execution.specs.Control.{controlRegister, controlValue, readControl, control};
 ghost use Rattle.execution.specs.Effect.{step};
-ghost use Rattle.execution.specs.Registers.{InRoom};
+ghost use Rattle.execution.specs.Registers.{InRegisters};
 use crate::context::Context;
 use crate::effect::Effect;
 use crate::registers;
@@ -31,34 +31,34 @@ fn control_register(context: Context, number: u32) -> ControlValue
     }
 }
 
-fn read_control(context: Context, room: &mut [u32], first: u32, second: u32) -> Effect
-    requires { ⌜ InRoom (now room) (context .thread) × (context .pc < 65536) × (first < 64) × (second < 64) ⌝ }
-    ensures { λ r. ⌜ step r (now (room .exit)) ≡ readControl context (now (room .entry)) first second ⌝ }
+fn read_control(context: Context, regs: &mut [u32], first: u32, second: u32) -> Effect
+    requires { ⌜ InRegisters (now regs) (context .thread) × (context .pc < 65536) × (first < 64) × (second < 64) ⌝ }
+    ensures { λ r. ⌜ step r (now (regs .exit)) ≡ readControl context (now (regs .entry)) first second ⌝ }
 {
-    let number = registers::scalar(room, context.thread, second);
+    let number = registers::scalar(regs, context.thread, second);
     match control_register(context, number) {
         ControlValue::Known(x) => {
-            registers::set_scalar(room, context.thread, first, x);
-            registers::advance(room, context);
+            registers::set_scalar(regs, context.thread, first, x);
+            registers::advance(regs, context);
             Effect::Stays
         }
         ControlValue::Unknown => Effect::Traps(6),
     }
 }
 
-pub fn control(context: Context, room: &mut [u32], op: ControlOp, first: u32, second: u32) -> Effect
-    requires { ⌜ InRoom (now room) (context .thread) × (context .pc < 65536) × (first < 64) × (second < 64) ⌝ }
-    ensures { λ r. ⌜ step r (now (room .exit)) ≡ control context (now (room .entry)) op first second ⌝ }
+pub fn control(context: Context, regs: &mut [u32], op: ControlOp, first: u32, second: u32) -> Effect
+    requires { ⌜ InRegisters (now regs) (context .thread) × (context .pc < 65536) × (first < 64) × (second < 64) ⌝ }
+    ensures { λ r. ⌜ step r (now (regs .exit)) ≡ control context (now (regs .entry)) op first second ⌝ }
 {
     match op {
         ControlOp::Barrier => {
-            let id = registers::scalar(room, context.thread, first);
-            let count = registers::scalar(room, context.thread, second);
-            Effect::Meets(id, count)
+            let id = registers::scalar(regs, context.thread, first);
+            let count = registers::scalar(regs, context.thread, second);
+            Effect::ReachesBarrier(id, count)
         }
-        ControlOp::Readcr => read_control(context, room, first, second),
+        ControlOp::Readcr => read_control(context, regs, first, second),
         ControlOp::End => {
-            registers::advance(room, context);
+            registers::advance(regs, context);
             Effect::Ends
         }
     }

@@ -8,5 +8,5 @@ pub enum Effect {
     // The thread ends.
     Ends,
     // The thread meets others at a barrier: the barrier's id, and the count less one.
-    Meets(u32, u32),
+    ReachesBarrier(u32, u32),
 }

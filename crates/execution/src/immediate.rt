@@ -2,7 +2,7 @@
 ghost use mathlib.Core.Path.{_≡_};
 ghost use Prim.Native.Nat.{_<_, _^_};
 ghost use Rattle.execution.specs.Immediate.{replaced, replacedLanes, moveImmediate};
-ghost use Rattle.execution.specs.Registers.{InRoom};
+ghost use Rattle.execution.specs.Registers.{InRegisters};
 use crate::registers;
 use isa::MoveiOp;
 
@@ -28,15 +28,15 @@ fn replace_lanes(op: MoveiOp, old: [u32; 16], n: u32) -> [u32; 16]
     v
 }
 
-pub fn move_immediate(room: &mut [u32], t: usize, op: MoveiOp, flag: bool, d: u32, n: u32)
-    requires { ⌜ InRoom (now room) t × (d < 64) × (n < 2 ^ 16) ⌝ }
-    ensures { λ _. ⌜ now (room .exit) ≡ moveImmediate (now (room .entry)) t op flag d n ⌝ }
+pub fn move_immediate(regs: &mut [u32], t: usize, op: MoveiOp, flag: bool, d: u32, n: u32)
+    requires { ⌜ InRegisters (now regs) t × (d < 64) × (n < 2 ^ 16) ⌝ }
+    ensures { λ _. ⌜ now (regs .exit) ≡ moveImmediate (now (regs .entry)) t op flag d n ⌝ }
 {
     if flag {
-        let old = registers::vector(room, t, d);
-        registers::set_lanes_on(room, t, d, replace_lanes(op, old, n));
+        let old = registers::vector(regs, t, d);
+        registers::set_lanes_on(regs, t, d, replace_lanes(op, old, n));
     } else {
-        let old = registers::scalar(room, t, d);
-        registers::set_scalar(room, t, d, replace(op, old, n));
+        let old = registers::scalar(regs, t, d);
+        registers::set_scalar(regs, t, d, replace(op, old, n));
     }
 }

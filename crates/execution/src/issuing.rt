@@ -3,9 +3,9 @@ ghost use mathlib.Core.Path.{_≡_};
 ghost use Prim.Native.Nat.{_≤_, _<_};
 ghost use lib.ListN.{length};
 ghost use Rattle.answer.specs.Refusal.{programWords};
-ghost use Rattle.machine.specs.Barrier.{meet};
-ghost use Rattle.execution.specs.Issue.{afterMeeting, fits, perform, performSetsStatus, issue, issueSetsStatus, Settles};
-ghost use Rattle.execution.specs.Registers.{InRoom};
+ghost use Rattle.machine.specs.Barrier.{reachBarrier};
+ghost use Rattle.execution.specs.Issue.{afterBarrier, fits, perform, performSetsStatus, issue, issueSetsStatus, Settles};
+ghost use Rattle.execution.specs.Registers.{InRegisters};
 ghost use Rattle.machine.specs.State.{state};
 use crate::context::Context;
 use crate::effect::Effect;
@@ -16,21 +16,27 @@ use machine::Machine;
 use machine::PROGRAM_COUNTER;
 
 // Whether the lengths and the thread are such as a run comes to.
-fn fits(words: usize, room: usize, thread: usize) -> bool
-    ensures { λ r. ⌜ r ≡ fits words room thread ⌝ }
+fn fits(words: usize, regs: usize, thread: usize) -> bool
+    ensures { λ r. ⌜ r ≡ fits words regs thread ⌝ }
 {
-    (words <= 16384) & (room == 8704) & (thread < 8)
+    (words <= 16384) & (regs == 8704) & (thread < 8)
 }
 
 // The thread at a barrier: s63 moves on unless it traps.
-fn meet(context: Context, registers: &mut [u32], machine: Machine, id: u32, second: u32) -> Machine
-    requires { ⌜ InRoom (now registers) (context .thread) × (context .pc < 65536) ⌝ }
+fn reach_barrier(
+    context: Context,
+    registers: &mut [u32],
+    machine: Machine,
+    id: u32,
+    second: u32,
+) -> Machine
+    requires { ⌜ InRegisters (now registers) (context .thread) × (context .pc < 65536) ⌝ }
     ensures { λ r. ⌜
-        (r ≡ meet machine (context .thread) id second .machine)
-        × (now (registers .exit) ≡ afterMeeting context (now (registers .entry)) (meet machine (context .thread) id second))
+        (r ≡ reach_barrier machine (context .thread) id second .machine)
+        × (now (registers .exit) ≡ afterBarrier context (now (registers .entry)) (reach_barrier machine (context .thread) id second))
         ⌝ }
 {
-    let met = machine.meet(context.thread, id, second);
+    let met = machine.reach_barrier(context.thread, id, second);
     let trapped = met.trapped;
     if trapped {
         return met.machine;
@@ -47,7 +53,7 @@ pub struct Issued {
 
 // What becomes of the record.
 fn settle(context: Context, registers: &mut [u32], machine: Machine, effect: Effect) -> Issued
-    requires { ⌜ InRoom (now registers) (context .thread) × (context .pc < 65536) ⌝ }
+    requires { ⌜ InRegisters (now registers) (context .thread) × (context .pc < 65536) ⌝ }
     ensures { λ r. ⌜ Settles machine context (now (registers .entry)) effect r (now (registers .exit)) ⌝ }
 {
     match effect {
@@ -63,8 +69,8 @@ fn settle(context: Context, registers: &mut [u32], machine: Machine, effect: Eff
             machine: machine.end(context.thread),
             changed: true,
         },
-        Effect::Meets(id, second) => Issued {
-            machine: meet(context, registers, machine, id, second),
+        Effect::ReachesBarrier(id, second) => Issued {
+            machine: reach_barrier(context, registers, machine, id, second),
             changed: true,
         },
     }
@@ -78,7 +84,7 @@ fn perform(
     machine: Machine,
     t: usize,
 ) -> Issued
-    requires { ⌜ InRoom (now registers) t × (length (now program) ≤ programWords) ⌝ }
+    requires { ⌜ InRegisters (now registers) t × (length (now program) ≤ programWords) ⌝ }
     ensures { λ r. ⌜
         (state (r .machine) (now (registers .exit)) (now (memory .exit))
         ≡ perform (now (program .entry)) (state machine (now (registers .entry)) (now (memory .entry))) t)

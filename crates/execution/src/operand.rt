@@ -2,7 +2,7 @@
 ghost use mathlib.Core.Path.{_≡_};
 ghost use Prim.Native.Nat.{_<_};
 ghost use Rattle.execution.specs.Operand.{source, isVector, word, lanes, Named};
-ghost use Rattle.execution.specs.Registers.{InRoom};
+ghost use Rattle.execution.specs.Registers.{InRegisters};
 ghost use Rattle.vector.specs.Lanes.{splatted};
 use crate::registers;
 
@@ -12,14 +12,14 @@ pub enum Source {
     Vector(u32),
 }
 
-pub fn select(room: &[u32], t: usize, flag: bool, i: u32) -> Source
-    requires { ⌜ InRoom (now room) t × (i < 64) ⌝ }
-    ensures { λ r. ⌜ (r ≡ source (now (room .entry)) t flag i) × Named r ⌝ }
+pub fn select(regs: &[u32], t: usize, flag: bool, i: u32) -> Source
+    requires { ⌜ InRegisters (now regs) t × (i < 64) ⌝ }
+    ensures { λ r. ⌜ (r ≡ source (now (regs .entry)) t flag i) × Named r ⌝ }
 {
     if flag {
         Source::Vector(i)
     } else {
-        Source::Scalar(registers::scalar(room, t, i))
+        Source::Scalar(registers::scalar(regs, t, i))
     }
 }
 
@@ -47,12 +47,12 @@ fn splat(x: u32) -> [u32; 16]
     [x; 16]
 }
 
-pub fn lanes(room: &[u32], t: usize, s: Source) -> [u32; 16]
-    requires { ⌜ InRoom (now room) t × Named s ⌝ }
-    ensures { λ r. ⌜ r ≡ lanes (now (room .entry)) t s ⌝ }
+pub fn lanes(regs: &[u32], t: usize, s: Source) -> [u32; 16]
+    requires { ⌜ InRegisters (now regs) t × Named s ⌝ }
+    ensures { λ r. ⌜ r ≡ lanes (now (regs .entry)) t s ⌝ }
 {
     match s {
         Source::Scalar(x) => splat(x),
-        Source::Vector(i) => registers::vector(room, t, i),
+        Source::Vector(i) => registers::vector(regs, t, i),
     }
 }

@@ -4,7 +4,7 @@ ghost use mathlib.Core.Bool.{cond};
 ghost use Prim.Native.Nat.{_<_};
 ghost use Rattle.execution.specs.Operand.{Named};
 ghost use Rattle.execution.specs.Operation.{binaryInto, unaryInto, compareInto, shuffleInto, getLaneInto, operate, operateR, operateI};
-ghost use Rattle.execution.specs.Registers.{InRoom};
+ghost use Rattle.execution.specs.Registers.{InRegisters};
 use crate::operand;
 use crate::operand::Source;
 use crate::registers;
@@ -14,35 +14,35 @@ use isa::Operation;
 use isa::UnaryOp;
 use machine::LANE_MASK;
 
-fn binary(room: &mut [u32], t: usize, op: BinaryOp, flag: bool, d: u32, a: Source, b: Source)
-    requires { ⌜ InRoom (now room) t × (d < 64) × Named a × Named b ⌝ }
-    ensures { λ _. ⌜ now (room .exit) ≡ binaryInto (now (room .entry)) t op flag d a b ⌝ }
+fn binary(regs: &mut [u32], t: usize, op: BinaryOp, flag: bool, d: u32, a: Source, b: Source)
+    requires { ⌜ InRegisters (now regs) t × (d < 64) × Named a × Named b ⌝ }
+    ensures { λ _. ⌜ now (regs .exit) ≡ binaryInto (now (regs .entry)) t op flag d a b ⌝ }
 {
     if flag {
-        let x = operand::lanes(room, t, a);
-        let y = operand::lanes(room, t, b);
-        let mask = registers::scalar(room, t, LANE_MASK);
-        let old = registers::vector(room, t, d);
-        registers::set_vector(room, t, d, vector::binary_masked(op, mask, x, y, old));
+        let x = operand::lanes(regs, t, a);
+        let y = operand::lanes(regs, t, b);
+        let mask = registers::scalar(regs, t, LANE_MASK);
+        let old = registers::vector(regs, t, d);
+        registers::set_vector(regs, t, d, vector::binary_masked(op, mask, x, y, old));
     } else {
         let x = operand::word(a);
         let y = operand::word(b);
-        registers::set_scalar(room, t, d, alu::binary(op, x, y));
+        registers::set_scalar(regs, t, d, alu::binary(op, x, y));
     }
 }
 
-fn unary(room: &mut [u32], t: usize, op: UnaryOp, flag: bool, d: u32, a: Source)
-    requires { ⌜ InRoom (now room) t × (d < 64) × Named a ⌝ }
-    ensures { λ _. ⌜ now (room .exit) ≡ unaryInto (now (room .entry)) t op flag d a ⌝ }
+fn unary(regs: &mut [u32], t: usize, op: UnaryOp, flag: bool, d: u32, a: Source)
+    requires { ⌜ InRegisters (now regs) t × (d < 64) × Named a ⌝ }
+    ensures { λ _. ⌜ now (regs .exit) ≡ unaryInto (now (regs .entry)) t op flag d a ⌝ }
 {
     if flag {
-        let x = operand::lanes(room, t, a);
-        let mask = registers::scalar(room, t, LANE_MASK);
-        let old = registers::vector(room, t, d);
-        registers::set_vector(room, t, d, vector::unary_masked(op, mask, x, old));
+        let x = operand::lanes(regs, t, a);
+        let mask = registers::scalar(regs, t, LANE_MASK);
+        let old = registers::vector(regs, t, d);
+        registers::set_vector(regs, t, d, vector::unary_masked(op, mask, x, old));
     } else {
         let x = operand::word(a);
-        registers::set_scalar(room, t, d, alu::unary(op, x));
+        registers::set_scalar(regs, t, d, alu::unary(op, x));
     }
 }
 
@@ -52,64 +52,64 @@ fn number(holds: bool) -> u32
     if holds { 1 } else { 0 }
 }
 
-fn compare(room: &mut [u32], t: usize, op: CompareOp, d: u32, a: Source, b: Source)
-    requires { ⌜ InRoom (now room) t × (d < 64) × Named a × Named b ⌝ }
-    ensures { λ _. ⌜ now (room .exit) ≡ compareInto (now (room .entry)) t op d a b ⌝ }
+fn compare(regs: &mut [u32], t: usize, op: CompareOp, d: u32, a: Source, b: Source)
+    requires { ⌜ InRegisters (now regs) t × (d < 64) × Named a × Named b ⌝ }
+    ensures { λ _. ⌜ now (regs .exit) ≡ compareInto (now (regs .entry)) t op d a b ⌝ }
 {
     if operand::is_vector(a) | operand::is_vector(b) {
-        let x = operand::lanes(room, t, a);
-        let y = operand::lanes(room, t, b);
-        let mask = registers::scalar(room, t, LANE_MASK);
-        registers::set_scalar(room, t, d, compares::compare_lanes(op, mask, x, y));
+        let x = operand::lanes(regs, t, a);
+        let y = operand::lanes(regs, t, b);
+        let mask = registers::scalar(regs, t, LANE_MASK);
+        registers::set_scalar(regs, t, d, compares::compare_lanes(op, mask, x, y));
     } else {
         let x = operand::word(a);
         let y = operand::word(b);
-        registers::set_scalar(room, t, d, number(alu::compare(op, x, y)));
+        registers::set_scalar(regs, t, d, number(alu::compare(op, x, y)));
     }
 }
 
-fn shuffle(room: &mut [u32], t: usize, d: u32, a: Source, b: Source)
-    requires { ⌜ InRoom (now room) t × (d < 64) × Named a × Named b ⌝ }
-    ensures { λ _. ⌜ now (room .exit) ≡ shuffleInto (now (room .entry)) t d a b ⌝ }
+fn shuffle(regs: &mut [u32], t: usize, d: u32, a: Source, b: Source)
+    requires { ⌜ InRegisters (now regs) t × (d < 64) × Named a × Named b ⌝ }
+    ensures { λ _. ⌜ now (regs .exit) ≡ shuffleInto (now (regs .entry)) t d a b ⌝ }
 {
-    let x = operand::lanes(room, t, a);
-    let y = operand::lanes(room, t, b);
-    registers::set_lanes_on(room, t, d, vector::shuffle(x, y));
+    let x = operand::lanes(regs, t, a);
+    let y = operand::lanes(regs, t, b);
+    registers::set_lanes_on(regs, t, d, vector::shuffle(x, y));
 }
 
-fn get_lane(room: &mut [u32], t: usize, d: u32, a: Source, b: Source)
-    requires { ⌜ InRoom (now room) t × (d < 64) × Named a ⌝ }
-    ensures { λ _. ⌜ now (room .exit) ≡ getLaneInto (now (room .entry)) t d a b ⌝ }
+fn get_lane(regs: &mut [u32], t: usize, d: u32, a: Source, b: Source)
+    requires { ⌜ InRegisters (now regs) t × (d < 64) × Named a ⌝ }
+    ensures { λ _. ⌜ now (regs .exit) ≡ getLaneInto (now (regs .entry)) t d a b ⌝ }
 {
-    let x = operand::lanes(room, t, a);
+    let x = operand::lanes(regs, t, a);
     let j = operand::word(b) % 16;
-    registers::set_scalar(room, t, d, x[j as usize]);
+    registers::set_scalar(regs, t, d, x[j as usize]);
 }
 
-fn operate(room: &mut [u32], t: usize, op: Operation, flag: bool, d: u32, a: Source, b: Source)
-    requires { ⌜ InRoom (now room) t × (d < 64) × Named a × Named b ⌝ }
-    ensures { λ _. ⌜ now (room .exit) ≡ operate (now (room .entry)) t op flag d a b ⌝ }
+fn operate(regs: &mut [u32], t: usize, op: Operation, flag: bool, d: u32, a: Source, b: Source)
+    requires { ⌜ InRegisters (now regs) t × (d < 64) × Named a × Named b ⌝ }
+    ensures { λ _. ⌜ now (regs .exit) ≡ operate (now (regs .entry)) t op flag d a b ⌝ }
 {
     match op {
-        Operation::Binary(o) => binary(room, t, o, flag, d, a, b),
-        Operation::Unary(o) => unary(room, t, o, flag, d, a),
-        Operation::Compare(o) => compare(room, t, o, d, a, b),
-        Operation::Shuffle => shuffle(room, t, d, a, b),
-        Operation::GetLane => get_lane(room, t, d, a, b),
+        Operation::Binary(o) => binary(regs, t, o, flag, d, a, b),
+        Operation::Unary(o) => unary(regs, t, o, flag, d, a),
+        Operation::Compare(o) => compare(regs, t, o, d, a, b),
+        Operation::Shuffle => shuffle(regs, t, d, a, b),
+        Operation::GetLane => get_lane(regs, t, d, a, b),
     }
 }
 
-pub fn operate_r(room: &mut [u32], t: usize, op: Operation, flags: u32, d: u32, a: u32, b: u32)
-    requires { ⌜ InRoom (now room) t × (d < 64) × (a < 64) × (b < 64) ⌝ }
-    ensures { λ _. ⌜ now (room .exit) ≡ operateR (now (room .entry)) t op flags d a b ⌝ }
+pub fn operate_r(regs: &mut [u32], t: usize, op: Operation, flags: u32, d: u32, a: u32, b: u32)
+    requires { ⌜ InRegisters (now regs) t × (d < 64) × (a < 64) × (b < 64) ⌝ }
+    ensures { λ _. ⌜ now (regs .exit) ≡ operateR (now (regs .entry)) t op flags d a b ⌝ }
 {
-    let x = operand::select(room, t, vector::is_on(flags, 1), a);
-    let y = operand::select(room, t, vector::is_on(flags, 0), b);
-    operate(room, t, op, vector::is_on(flags, 2), d, x, y);
+    let x = operand::select(regs, t, vector::is_on(flags, 1), a);
+    let y = operand::select(regs, t, vector::is_on(flags, 0), b);
+    operate(regs, t, op, vector::is_on(flags, 2), d, x, y);
 }
 
 pub fn operate_i(
-    room: &mut [u32],
+    regs: &mut [u32],
     t: usize,
     op: Operation,
     flags: u32,
@@ -117,12 +117,12 @@ pub fn operate_i(
     a: u32,
     immediate: u32,
 )
-    requires { ⌜ InRoom (now room) t × (d < 64) × (a < 64) ⌝ }
-    ensures { λ _. ⌜ now (room .exit) ≡ operateI (now (room .entry)) t op flags d a immediate ⌝ }
+    requires { ⌜ InRegisters (now regs) t × (d < 64) × (a < 64) ⌝ }
+    ensures { λ _. ⌜ now (regs .exit) ≡ operateI (now (regs .entry)) t op flags d a immediate ⌝ }
 {
-    let x = operand::select(room, t, vector::is_on(flags, 0), a);
+    let x = operand::select(regs, t, vector::is_on(flags, 0), a);
     operate(
-        room,
+        regs,
         t,
         op,
         vector::is_on(flags, 1),

@@ -15,26 +15,26 @@ use Rattle.fast_path.specs.Action.{stepOf, Executes, Acts, Goes, Tried, 
 use Rattle.fast_path.specs.Types.{Action, Context, Stays}
 
 -- a word that is executed as a step says is tried by trying that step
-pub tries-step : (c : Context) (w : ℕ) (room memory : List ℕ) (s : Option Step) → Executes c w room memory s →
-    (r : Bool) (after : List ℕ) → Goes s room r after → Tried c w room memory r after memory
-tries-step c w room memory (some s) h true after k =
+pub tries-step : (c : Context) (w : ℕ) (regs memory : List ℕ) (s : Option Step) → Executes c w regs memory s →
+    (r : Bool) (after : List ℕ) → Goes s regs r after → Tried c w regs memory r after memory
+tries-step c w regs memory (some s) h true after k =
     let e : s ≡ step Stays after = cc in
     ap (λ (x : Step). beside x memory) (sym e) ∙ sym h
-tries-step c w room memory none h true after k = let z : _≡_ {A = ℕ} 0 1 = cc in absurd (omega arith)
-tries-step c w room memory s h false after k = (k, refl)
+tries-step c w regs memory none h true after k = let z : _≡_ {A = ℕ} 0 1 = cc in absurd (omega arith)
+tries-step c w regs memory s h false after k = (k, refl)
 
 -- the same of an action
-pub tries-action : (c : Context) (w d : ℕ) → d ≡ bits w 23 18 → (room memory : List ℕ) (a : Action) → Acts c w room memory a →
-    (r : Bool) (after : List ℕ) → Goes (stepOf c d room a) room r after → Tried c w room memory r after memory
-tries-action c w d e room memory a h r after k =
-    tries-step c w room memory (stepOf c (bits w 23 18) room a) h r after
-    (subst (λ (x : ℕ). Goes (stepOf c x room a) room r after) e k)
+pub tries-action : (c : Context) (w d : ℕ) → d ≡ bits w 23 18 → (regs memory : List ℕ) (a : Action) → Acts c w regs memory a →
+    (r : Bool) (after : List ℕ) → Goes (stepOf c d regs a) regs r after → Tried c w regs memory r after memory
+tries-action c w d e regs memory a h r after k =
+    tries-step c w regs memory (stepOf c (bits w 23 18) regs a) h r after
+    (subst (λ (x : ℕ). Goes (stepOf c x regs a) regs r after) e k)
 
 -- trying the word at a thread's s63 is its issue
-pub tries-issue : (p : List ℕ) (t : ℕ) (room memory : List ℕ) → fits (length p) (length room) t ≡ true → (pc : ℕ) →
-    pc ≡ programCounter room t → inProgram (length p) pc ≡ true → (r : Bool) (after stored : List ℕ) →
-    TriedWord t pc (length p) (getD p (pc / 4) 0) room memory r after stored → TriedIssue p t room memory r after stored
+pub tries-issue : (p : List ℕ) (t : ℕ) (regs memory : List ℕ) → fits (length p) (length regs) t ≡ true → (pc : ℕ) →
+    pc ≡ programCounter regs t → inProgram (length p) pc ≡ true → (r : Bool) (after stored : List ℕ) →
+    TriedWord t pc (length p) (getD p (pc / 4) 0) regs memory r after stored → TriedIssue p t regs memory r after stored
 unfolding issue issueSetsStatus perform performSetsStatus
-tries-issue p t room memory f pc e i true after stored h =
+tries-issue p t regs memory f pc e i true after stored h =
     λ m. (rw (f, ← e, i, ← h (m .enabled)), rw (f, ← e, i, ← h (m .enabled)))
-tries-issue p t room memory f pc e i false after stored h = h 0
+tries-issue p t regs memory f pc e i false after stored h = h 0

@@ -20,49 +20,49 @@ pub record HasOpcode (w format count opcode : ℕ) : Type 0 where
 
 -- the step that an action is, of a word whose destination is d
 abbrev pub stepOf : Context → ℕ → List ℕ → Action → Option Step
-stepOf c d room (Write x) = some (next c (withScalar room (c .thread) d x))
-stepOf c d room Next = some (next c room)
-stepOf c d room (Jump offset) = some (jumpBy c room room offset)
-stepOf c d room Defer = none
+stepOf c d regs (Write x) = some (next c (withScalar regs (c .thread) d x))
+stepOf c d regs Next = some (next c regs)
+stepOf c d regs (Jump offset) = some (jumpBy c regs regs offset)
+stepOf c d regs Defer = none
 
 -- the rules execute a word as this step, if there is one
 abbrev pub Executes : Context → ℕ → List ℕ → List ℕ → Option Step → Type 0
-Executes c w room memory (some s) = executeWord c room memory w ≡ beside s memory
-Executes c w room memory none = Unit {0}
+Executes c w regs memory (some s) = executeWord c regs memory w ≡ beside s memory
+Executes c w regs memory none = Unit {0}
 
 abbrev pub Acts : Context → ℕ → List ℕ → List ℕ → Action → Type 0
-Acts c w room memory a = Executes c w room memory (stepOf c (field w firstRegister) room a)
+Acts c w regs memory a = Executes c w regs memory (stepOf c (field w firstRegister) regs a)
 
 -- the same of a word that reads memory, wherever it stands, and of one on registers alone
 abbrev pub ActsOn : ℕ → ℕ → List ℕ → List ℕ → Action → Type 0
-ActsOn t w room memory a = (pc enabled words : ℕ) → Acts (context t pc enabled words) w room memory a
+ActsOn t w regs memory a = (pc enabled words : ℕ) → Acts (context t pc enabled words) w regs memory a
 
 abbrev pub ActsAnywhere : ℕ → ℕ → List ℕ → Action → Type 0
-ActsAnywhere t w room a = (memory : List ℕ) → ActsOn t w room memory a
+ActsAnywhere t w regs a = (memory : List ℕ) → ActsOn t w regs memory a
 
 -- an answer true says that the thread has gone on by this step; an answer false, that no register changed
 abbrev pub Goes : Option Step → List ℕ → Bool → List ℕ → Type 0
-Goes s room true after = s ≡ some (step Stays after)
-Goes s room false after = after ≡ room
+Goes s regs true after = s ≡ some (step Stays after)
+Goes s regs false after = after ≡ regs
 
 -- the same of an action, whatever the enabled mask is
 abbrev pub GoesBy : ℕ → ℕ → ℕ → ℕ → List ℕ → Action → Bool → List ℕ → Type 0
-GoesBy t pc words d room a r after = (enabled : ℕ) → Goes (stepOf (context t pc enabled words) d room a) room r after
+GoesBy t pc words d regs a r after = (enabled : ℕ) → Goes (stepOf (context t pc enabled words) d regs a) regs r after
 
 -- an answer true says that the word was executed and the thread goes on; an answer false, that nothing changed
 abbrev pub Tried : Context → ℕ → List ℕ → List ℕ → Bool → List ℕ → List ℕ → Type 0
-Tried c w room memory true after stored = executed Stays after stored ≡ executeWord c room memory w
-Tried c w room memory false after stored = (after ≡ room) × (stored ≡ memory)
+Tried c w regs memory true after stored = executed Stays after stored ≡ executeWord c regs memory w
+Tried c w regs memory false after stored = (after ≡ regs) × (stored ≡ memory)
 
 -- the same of a store, whatever the program is, and of any word
 abbrev pub TriedStore : ℕ → ℕ → ℕ → List ℕ → List ℕ → Bool → List ℕ → List ℕ → Type 0
-TriedStore t pc w room memory r after stored = (enabled words : ℕ) → Tried (context t pc enabled words) w room memory r after stored
+TriedStore t pc w regs memory r after stored = (enabled words : ℕ) → Tried (context t pc enabled words) w regs memory r after stored
 
 abbrev pub TriedWord : ℕ → ℕ → ℕ → ℕ → List ℕ → List ℕ → Bool → List ℕ → List ℕ → Type 0
-TriedWord t pc words w room memory r after stored = (enabled : ℕ) → Tried (context t pc enabled words) w room memory r after stored
+TriedWord t pc words w regs memory r after stored = (enabled : ℕ) → Tried (context t pc enabled words) w regs memory r after stored
 
 -- an answer true says that the issue was made, whatever the record is, and set no status; an answer false, that nothing changed
 abbrev pub TriedIssue : List ℕ → ℕ → List ℕ → List ℕ → Bool → List ℕ → List ℕ → Type 0
-TriedIssue p t room memory true after stored =
-    (m : Machine) → (state m after stored ≡ issue p (state m room memory) t) × (false ≡ issueSetsStatus p (state m room memory) t)
-TriedIssue p t room memory false after stored = (after ≡ room) × (stored ≡ memory)
+TriedIssue p t regs memory true after stored =
+    (m : Machine) → (state m after stored ≡ issue p (state m regs memory) t) × (false ≡ issueSetsStatus p (state m regs memory) t)
+TriedIssue p t regs memory false after stored = (after ≡ regs) × (stored ≡ memory)

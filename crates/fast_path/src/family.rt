@@ -3,7 +3,7 @@ ghost use mathlib.Core.Bool.{cond};
 ghost use mathlib.Core.Path.{_≡_};
 ghost use Prim.Native.Nat.{_<_, _^_};
 ghost use Rattle.execution.specs.Immediate.{replaced};
-ghost use Rattle.execution.specs.Registers.{InRoom};
+ghost use Rattle.execution.specs.Registers.{InRegisters};
 ghost use Rattle.isa.specs.Table.{rowR, rowMovei, rowJ, rowM};
 ghost use Rattle.fast_path.specs.Action.{HasOpcode, ActsOn, ActsAnywhere};
 ghost use Rattle.fast_path.specs.Types.{Next, Jump, Binary, Unary, Compare, Load};
@@ -18,39 +18,39 @@ use isa::MoveiOp;
 use isa::UnaryOp;
 use memory::Loaded;
 
-pub fn binary_r(room: &[u32], t: usize, w: u32, op: BinaryOp) -> Action
-    requires { ⌜ InRoom (now room) t × HasOpcode w 0x00 64 (rowR (Binary op) .opcode) ⌝ }
-    ensures { λ r. ⌜ ActsAnywhere t w (now (room .entry)) r ⌝ }
+pub fn binary_r(regs: &[u32], t: usize, w: u32, op: BinaryOp) -> Action
+    requires { ⌜ InRegisters (now regs) t × HasOpcode w 0x00 64 (rowR (Binary op) .opcode) ⌝ }
+    ensures { λ r. ⌜ ActsAnywhere t w (now (regs .entry)) r ⌝ }
 {
     if field::flags_r(w) != 0 {
         return Action::Defer;
     }
-    let x = registers::operand_a(room, t, w);
-    let y = registers::operand_b(room, t, w);
+    let x = registers::operand_a(regs, t, w);
+    let y = registers::operand_b(regs, t, w);
     Action::Write(alu::binary(op, x, y))
 }
 
-pub fn binary_i(room: &[u32], t: usize, w: u32, op: BinaryOp) -> Action
-    requires { ⌜ InRoom (now room) t × HasOpcode w 0x40 32 (rowR (Binary op) .opcode) ⌝ }
-    ensures { λ r. ⌜ ActsAnywhere t w (now (room .entry)) r ⌝ }
+pub fn binary_i(regs: &[u32], t: usize, w: u32, op: BinaryOp) -> Action
+    requires { ⌜ InRegisters (now regs) t × HasOpcode w 0x40 32 (rowR (Binary op) .opcode) ⌝ }
+    ensures { λ r. ⌜ ActsAnywhere t w (now (regs .entry)) r ⌝ }
 {
     if field::flags_i(w) != 0 {
         return Action::Defer;
     }
-    let x = registers::operand_a(room, t, w);
+    let x = registers::operand_a(regs, t, w);
     let y = word_layout::short_signed(w);
     Action::Write(alu::binary(op, x, y))
 }
 
 // Field b is 0.
-pub fn unary_r(room: &[u32], t: usize, w: u32, op: UnaryOp) -> Action
-    requires { ⌜ InRoom (now room) t × HasOpcode w 0x00 64 (rowR (Unary op) .opcode) ⌝ }
-    ensures { λ r. ⌜ ActsAnywhere t w (now (room .entry)) r ⌝ }
+pub fn unary_r(regs: &[u32], t: usize, w: u32, op: UnaryOp) -> Action
+    requires { ⌜ InRegisters (now regs) t × HasOpcode w 0x00 64 (rowR (Unary op) .opcode) ⌝ }
+    ensures { λ r. ⌜ ActsAnywhere t w (now (regs .entry)) r ⌝ }
 {
     if w % 4096 != 0 {
         return Action::Defer;
     }
-    let x = registers::operand_a(room, t, w);
+    let x = registers::operand_a(regs, t, w);
     Action::Write(alu::unary(op, x))
 }
 
@@ -60,26 +60,26 @@ fn number(holds: bool) -> u32
     if holds { 1 } else { 0 }
 }
 
-pub fn compare_r(room: &[u32], t: usize, w: u32, op: CompareOp) -> Action
-    requires { ⌜ InRoom (now room) t × HasOpcode w 0x00 64 (rowR (Compare op) .opcode) ⌝ }
-    ensures { λ r. ⌜ ActsAnywhere t w (now (room .entry)) r ⌝ }
+pub fn compare_r(regs: &[u32], t: usize, w: u32, op: CompareOp) -> Action
+    requires { ⌜ InRegisters (now regs) t × HasOpcode w 0x00 64 (rowR (Compare op) .opcode) ⌝ }
+    ensures { λ r. ⌜ ActsAnywhere t w (now (regs .entry)) r ⌝ }
 {
     if field::flags_r(w) != 0 {
         return Action::Defer;
     }
-    let x = registers::operand_a(room, t, w);
-    let y = registers::operand_b(room, t, w);
+    let x = registers::operand_a(regs, t, w);
+    let y = registers::operand_b(regs, t, w);
     Action::Write(number(alu::compare(op, x, y)))
 }
 
-pub fn compare_i(room: &[u32], t: usize, w: u32, op: CompareOp) -> Action
-    requires { ⌜ InRoom (now room) t × HasOpcode w 0x40 32 (rowR (Compare op) .opcode) ⌝ }
-    ensures { λ r. ⌜ ActsAnywhere t w (now (room .entry)) r ⌝ }
+pub fn compare_i(regs: &[u32], t: usize, w: u32, op: CompareOp) -> Action
+    requires { ⌜ InRegisters (now regs) t × HasOpcode w 0x40 32 (rowR (Compare op) .opcode) ⌝ }
+    ensures { λ r. ⌜ ActsAnywhere t w (now (regs .entry)) r ⌝ }
 {
     if field::flags_i(w) != 0 {
         return Action::Defer;
     }
-    let x = registers::operand_a(room, t, w);
+    let x = registers::operand_a(regs, t, w);
     let y = word_layout::short_signed(w);
     Action::Write(number(alu::compare(op, x, y)))
 }
@@ -95,14 +95,14 @@ fn replace(op: MoveiOp, old: u32, n: u32) -> u32
     }
 }
 
-pub fn move_immediate(room: &[u32], t: usize, w: u32, op: MoveiOp) -> Action
-    requires { ⌜ InRoom (now room) t × HasOpcode w 0x60 8 (rowMovei op .opcode) ⌝ }
-    ensures { λ r. ⌜ ActsAnywhere t w (now (room .entry)) r ⌝ }
+pub fn move_immediate(regs: &[u32], t: usize, w: u32, op: MoveiOp) -> Action
+    requires { ⌜ InRegisters (now regs) t × HasOpcode w 0x60 8 (rowMovei op .opcode) ⌝ }
+    ensures { λ r. ⌜ ActsAnywhere t w (now (regs .entry)) r ⌝ }
 {
     if w % 4 != 0 {
         return Action::Defer;
     }
-    let old = registers::operand_d(room, t, w);
+    let old = registers::operand_d(regs, t, w);
     Action::Write(replace(op, old, w / 4 % 65536))
 }
 
@@ -118,12 +118,12 @@ fn branch(taken: bool, offset: u32) -> Action
 }
 
 // jmp has register 0. What links or takes its target from a register is left to the slow path.
-pub fn jump(room: &[u32], t: usize, w: u32, op: JumpOp) -> Action
-    requires { ⌜ InRoom (now room) t × HasOpcode w 0x70 8 (rowJ op .opcode) ⌝ }
-    ensures { λ r. ⌜ ActsAnywhere t w (now (room .entry)) r ⌝ }
+pub fn jump(regs: &[u32], t: usize, w: u32, op: JumpOp) -> Action
+    requires { ⌜ InRegisters (now regs) t × HasOpcode w 0x70 8 (rowJ op .opcode) ⌝ }
+    ensures { λ r. ⌜ ActsAnywhere t w (now (regs .entry)) r ⌝ }
 {
     let register = registers::register(w);
-    let x = registers::operand_d(room, t, w);
+    let x = registers::operand_d(regs, t, w);
     let offset = word_layout::long_signed(w);
     match op {
         JumpOp::Jmp => if register == 0 {
@@ -139,14 +139,14 @@ pub fn jump(room: &[u32], t: usize, w: u32, op: JumpOp) -> Action
 }
 
 // A load that traps is left to the slow path, which finds the trap again.
-pub fn load(room: &[u32], memory: &[u8], t: usize, w: u32, op: LoadOp) -> Action
-    requires { ⌜ InRoom (now room) t × HasOpcode w 0x80 64 (rowM (Load op) .opcode) ⌝ }
-    ensures { λ r. ⌜ ActsOn t w (now (room .entry)) (now (memory .entry)) r ⌝ }
+pub fn load(regs: &[u32], memory: &[u8], t: usize, w: u32, op: LoadOp) -> Action
+    requires { ⌜ InRegisters (now regs) t × HasOpcode w 0x80 64 (rowM (Load op) .opcode) ⌝ }
+    ensures { λ r. ⌜ ActsOn t w (now (regs .entry)) (now (memory .entry)) r ⌝ }
 {
     if field::flags_i(w) != 0 {
         return Action::Defer;
     }
-    let base = registers::operand_a(room, t, w);
+    let base = registers::operand_a(regs, t, w);
     let offset = word_layout::short_signed(w);
     match memory::load(op, memory, base, offset) {
         Loaded::Value(x) => Action::Write(x),

@@ -1,22 +1,22 @@
 // Scalar registers, by their numbers and by a word's fields.
 ghost use mathlib.Core.Path.{_≡_};
 ghost use Prim.Native.Nat.{_+_, _<_};
-ghost use Rattle.execution.specs.Registers.{scalar, withScalar, withProgramCounter, InRoom};
+ghost use Rattle.execution.specs.Registers.{scalar, withScalar, withProgramCounter, InRegisters};
 ghost use Rattle.word_layout.specs.Layout.{field, firstRegister, secondRegister, thirdRegister};
 use machine::PROGRAM_COUNTER;
 
-pub fn scalar(room: &[u32], t: usize, i: u32) -> u32
-    requires { ⌜ InRoom (now room) t × (i < 64) ⌝ }
-    ensures { λ r. ⌜ r ≡ scalar (now (room .entry)) t i ⌝ }
+pub fn scalar(regs: &[u32], t: usize, i: u32) -> u32
+    requires { ⌜ InRegisters (now regs) t × (i < 64) ⌝ }
+    ensures { λ r. ⌜ r ≡ scalar (now (regs .entry)) t i ⌝ }
 {
-    room[64 * t + i as usize]
+    regs[64 * t + i as usize]
 }
 
-pub fn set_scalar(room: &mut [u32], t: usize, i: u32, x: u32)
-    requires { ⌜ InRoom (now room) t × (i < 64) ⌝ }
-    ensures { λ _. ⌜ now (room .exit) ≡ withScalar (now (room .entry)) t i x ⌝ }
+pub fn set_scalar(regs: &mut [u32], t: usize, i: u32, x: u32)
+    requires { ⌜ InRegisters (now regs) t × (i < 64) ⌝ }
+    ensures { λ _. ⌜ now (regs .exit) ≡ withScalar (now (regs .entry)) t i x ⌝ }
 {
-    room[64 * t + i as usize] = x;
+    regs[64 * t + i as usize] = x;
 }
 
 // The number of the register in bits 23-18.
@@ -27,31 +27,31 @@ pub fn register(w: u32) -> usize
 }
 
 // What is in that register, and in those of operands a and b.
-pub fn operand_d(room: &[u32], t: usize, w: u32) -> u32
-    requires { ⌜ InRoom (now room) t ⌝ }
-    ensures { λ r. ⌜ r ≡ scalar (now (room .entry)) t (field w firstRegister) ⌝ }
+pub fn operand_d(regs: &[u32], t: usize, w: u32) -> u32
+    requires { ⌜ InRegisters (now regs) t ⌝ }
+    ensures { λ r. ⌜ r ≡ scalar (now (regs .entry)) t (field w firstRegister) ⌝ }
 {
-    scalar(room, t, w / 0x40000 % 64)
+    scalar(regs, t, w / 0x40000 % 64)
 }
 
-pub fn operand_a(room: &[u32], t: usize, w: u32) -> u32
-    requires { ⌜ InRoom (now room) t ⌝ }
-    ensures { λ r. ⌜ r ≡ scalar (now (room .entry)) t (field w secondRegister) ⌝ }
+pub fn operand_a(regs: &[u32], t: usize, w: u32) -> u32
+    requires { ⌜ InRegisters (now regs) t ⌝ }
+    ensures { λ r. ⌜ r ≡ scalar (now (regs .entry)) t (field w secondRegister) ⌝ }
 {
-    scalar(room, t, w / 0x1000 % 64)
+    scalar(regs, t, w / 0x1000 % 64)
 }
 
-pub fn operand_b(room: &[u32], t: usize, w: u32) -> u32
-    requires { ⌜ InRoom (now room) t ⌝ }
-    ensures { λ r. ⌜ r ≡ scalar (now (room .entry)) t (field w thirdRegister) ⌝ }
+pub fn operand_b(regs: &[u32], t: usize, w: u32) -> u32
+    requires { ⌜ InRegisters (now regs) t ⌝ }
+    ensures { λ r. ⌜ r ≡ scalar (now (regs .entry)) t (field w thirdRegister) ⌝ }
 {
-    scalar(room, t, w / 0x40 % 64)
+    scalar(regs, t, w / 0x40 % 64)
 }
 
 // s63 moves on from the word's own address.
-pub fn advance(room: &mut [u32], t: usize, pc: u32)
-    requires { ⌜ InRoom (now room) t × (pc < 65536) ⌝ }
-    ensures { λ _. ⌜ now (room .exit) ≡ withProgramCounter (now (room .entry)) t (pc + 4) ⌝ }
+pub fn advance(regs: &mut [u32], t: usize, pc: u32)
+    requires { ⌜ InRegisters (now regs) t × (pc < 65536) ⌝ }
+    ensures { λ _. ⌜ now (regs .exit) ≡ withProgramCounter (now (regs .entry)) t (pc + 4) ⌝ }
 {
-    set_scalar(room, t, PROGRAM_COUNTER, pc + 4);
+    set_scalar(regs, t, PROGRAM_COUNTER, pc + 4);
 }

@@ -15,7 +15,7 @@ use Rattle.isa.proofs.Both.{Each}
 use Rattle.isa.proofs.Parts.{covers, pack-below}
 use Rattle.isa.proofs.RoundTrip.{exact}
 use Rattle.isa.specs.Claims.{Exact}
-use Rattle.word_layout.specs.Layout.{Part, width, room, layoutR, layoutI, layoutMovei, layoutJ, layoutC, layoutM}
+use Rattle.word_layout.specs.Layout.{Part, width, eachFits, layoutR, layoutI, layoutMovei, layoutJ, layoutC, layoutM}
 use Rattle.isa.specs.Read.{read}
 use Rattle.isa.specs.Write.{write, written as encoded, writeR, writeI, writeMovei, writeJ, writeC, writeM}
 use Rattle.fields.proofs.Again.{encoded-numbers, numbered, own, same, has-word}
@@ -31,13 +31,13 @@ matched n w (refused number) = refused no-word
 
 -- the word with the numbers in its fields is one of 32 bits
 
-room-reduced : (ps : List Part) (vs : List ℕ) → Each (room ps (reduced ps vs))
-room-reduced [] vs = tt
-room-reduced (p ∷ ps) [] = tt
-room-reduced (p ∷ ps) (v ∷ vs) = (lt-ltb _ _ (mod-lt v (pow-pos (width p))), room-reduced ps vs)
+eachFits-reduced : (ps : List Part) (vs : List ℕ) → Each (eachFits ps (reduced ps vs))
+eachFits-reduced [] vs = tt
+eachFits-reduced (p ∷ ps) [] = tt
+eachFits-reduced (p ∷ ps) (v ∷ vs) = (lt-ltb _ _ (mod-lt v (pow-pos (width p))), eachFits-reduced ps vs)
 
 filled-below : (ps : List Part) → covers 32 ps ≡ true → (vs : List ℕ) → length (reduced ps vs) ≡ length ps → filled ps vs < 2 ^ 32
-filled-below ps c vs l = pack-below 32 ps c (reduced ps vs) l (room-reduced ps vs)
+filled-below ps c vs l = pack-below 32 ps c (reduced ps vs) l (eachFits-reduced ps vs)
 
 either-below : (t : Bool) (x y : ℕ) → x < 2 ^ 32 → y < 2 ^ 32 → cond t x y < 2 ^ 32
 either-below true x y p q = p

@@ -21,12 +21,12 @@ suits a registers memory w Sr = w
 suits a registers memory w Vr = w
 suits a registers memory w Mm = w
 
-pub numbered : (a : Shape) (registers memory : List ℕ) (k : Kind) (i : ℕ) → Suits a k registers memory → i < rowOf a k .count → Numbered (rowOf a k .places) i
-numbered a registers memory Hd i w l = tt
-numbered a registers memory Th i w l = omega arith
-numbered a registers memory Sr i w l = omega arith
-numbered a registers memory Vr i w l = omega arith
-numbered a registers memory Mm i w l = omega (arith, w .few)
+pub place-fits : (a : Shape) (registers memory : List ℕ) (k : Kind) (i : ℕ) → Suits a k registers memory → i < rowOf a k .count → Numbered (rowOf a k .places) i
+place-fits a registers memory Hd i w l = tt
+place-fits a registers memory Th i w l = omega arith
+place-fits a registers memory Sr i w l = omega arith
+place-fits a registers memory Vr i w l = omega arith
+place-fits a registers memory Mm i w l = omega (arith, w .few)
 
 block-length : (n b i : ℕ) (l : List ℕ) → n * b ≡ length l → i < b → length (take n (drop (n * i) l)) ≡ n
 block-length n b i l e h = length-take-le n (drop (n * i) l) (rw (length-drop (n * i) l) (omega (arith, fits-in n i b h)))

@@ -4,17 +4,17 @@ use Rattle.answer.specs.Refusal.{firstThatApplies}
 use Rattle.machine.specs.Machine.{allThreads, anyThread, countThreads, start}
 use Rattle.machine.specs.Search.{all, any, count}
 use Rattle.machine.specs.WellFormed.{numbersInRange, wellFormedWithin}
-use Rattle.image_layout.specs.Join.{joined, total, allBelow}
+use Rattle.image_layout.specs.Join.{concatBelow, total, allBelow}
 use Rattle.image_layout.specs.Layout.{positionIn, orderOf, recordOf, sectionOf, startOf, bodyAt, standsAt, headsOf, headsIn}
 use Rattle.little_endian.specs.Numbers.{numberBytes, bytesOf}
-use Rattle.image.specs.Fields.{accepted, threadOf}
+use Rattle.image.specs.Fields.{checkedThread, threadOf}
 use Rattle.image.specs.Image.{entryIn, threadsIn, machineIn, recordIn}
 use Rattle.image.specs.Opening.{recordBytes, openingNumber}
 use Rattle.image.specs.Refusal.{writeNumber, readNumber}
 use Rattle.image.specs.Rows.{BytesHold, WriteOrder, ReadOrder, OpeningOrder}
 
 pub bytes-hold : BytesHold
-unfolding recordBytes joined sectionOf recordOf bytesOf numberBytes
+unfolding recordBytes concatBelow sectionOf recordOf bytesOf numberBytes
 bytes-hold = record { hd = λ m. refl; record-bytes = refl; sr = refl; vr = refl; mm = refl; word = refl }
 
 pub write-order : WriteOrder
@@ -26,5 +26,5 @@ unfolding readNumber firstThatApplies headsIn headsOf allBelow standsAt startOf 
 read-order = record { room = refl; memory = refl; length = refl; marks = refl }
 
 pub opening-order : OpeningOrder
-unfolding openingNumber recordBytes joined sectionOf recordOf firstThatApplies headsOf allBelow standsAt startOf total orderOf positionIn recordIn entryIn threadsIn machineIn bodyAt threadOf accepted wellFormedWithin numbersInRange allThreads anyThread countThreads all any count
+unfolding openingNumber recordBytes concatBelow sectionOf recordOf firstThatApplies headsOf allBelow standsAt startOf total orderOf positionIn recordIn entryIn threadsIn machineIn bodyAt threadOf checkedThread wellFormedWithin numbersInRange allThreads anyThread countThreads all any count
 opening-order = record { taken = refl; not-well-formed = refl; not-carried = refl; marked = refl; out-of-place = refl }

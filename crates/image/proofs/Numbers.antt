@@ -8,22 +8,22 @@ use borrow.Author.Tests.{eqb-true, eq-eqb}
 use lib.Dec.{eqb}
 use Rattle.image.specs.Claims.{Exact}
 use Rattle.answer.specs.Answer.{given, refused}
-use Rattle.image.specs.Fields.{statusFields, fieldsOf, numbered, sameFields, accepted, threadOf}
-use Rattle.image.specs.Types.{Status, Idle, Running, Ended, Trapped, Waiting, Fields}
+use Rattle.image.specs.Fields.{statusFields, fieldsOf, statusOf, sameFields, checkedThread, threadOf}
+use Rattle.image.specs.Types.{Status, Idle, Running, Ended, Trapped, Waiting, ThreadFields}
 use Rattle.machine.specs.Machine.{zeroThread, withStatus}
 
 -- the numbers of a status name it
-named : (s : Status) → numbered (statusFields s) ≡ some s
+named : (s : Status) → statusOf (statusFields s) ≡ some s
 named Idle = refl
 named Running = refl
 named Ended = refl
 named (Trapped reason) = refl
 named (Waiting id count) = refl
 
-same-self : (f : Fields) → sameFields f f ≡ true
+same-self : (f : ThreadFields) → sameFields f f ≡ true
 same-self f = rw (eq-eqb (f .status) (f .status) refl, eq-eqb (f .reason) (f .reason) refl, eq-eqb (f .id) (f .id) refl, eq-eqb (f .count) (f .count) refl)
 
-same-fields : (f g : Fields) → sameFields f g ≡ true → f ≡ g
+same-fields : (f g : ThreadFields) → sameFields f g ≡ true → f ≡ g
 same-fields f g h =
     let a = and-eq-true-iff (eqb (f .status) (g .status) && eqb (f .reason) (g .reason) && eqb (f .id) (g .id)) (eqb (f .count) (g .count)) .0 h in
     let b = and-eq-true-iff (eqb (f .status) (g .status) && eqb (f .reason) (g .reason)) (eqb (f .id) (g .id)) .0 (a .0) in
@@ -35,18 +35,18 @@ same-fields f g h =
     (λ i. record { status = status i; reason = reason i; id = id i; count = count i })
 
 pub exact : Exact
-unfolding threadOf accepted
-exact f e = (there (numbered f), back)
+unfolding threadOf checkedThread
+exact f e = (there (statusOf f), back)
   where
     picked : (s : Status) (b : Bool) → sameFields (statusFields s) f ≡ b → cond b (given (withStatus zeroThread s)) (refused 4) ≡ given e → fieldsOf e ≡ f
     picked s true h g = let q : withStatus zeroThread s ≡ e = cc in ap fieldsOf (sym q) ∙ same-fields (statusFields s) f h
     picked s false h g = absurd (let z : _≡_ {A = ℕ} 0 1 = cc in omega arith)
 
-    there : (o : Option Status) → accepted f o ≡ given e → fieldsOf e ≡ f
+    there : (o : Option Status) → checkedThread f o ≡ given e → fieldsOf e ≡ f
     there none h = absurd (let z : _≡_ {A = ℕ} 0 1 = cc in omega arith)
     there (some s) h = picked s (sameFields (statusFields s) f) refl h
 
-    back : fieldsOf e ≡ f → accepted f (numbered f) ≡ given e
+    back : fieldsOf e ≡ f → checkedThread f (statusOf f) ≡ given e
     back h =
-        let a : accepted (fieldsOf e) (some (e .status)) ≡ given e = rw (same-self (fieldsOf e)) in
-        sym (ap (λ g. accepted g (numbered g)) h) ∙ (ap (accepted (fieldsOf e)) (named (e .status)) ∙ a)
+        let a : checkedThread (fieldsOf e) (some (e .status)) ≡ given e = rw (same-self (fieldsOf e)) in
+        sym (ap (λ g. checkedThread g (statusOf g)) h) ∙ (ap (checkedThread (fieldsOf e)) (named (e .status)) ∙ a)

@@ -12,7 +12,7 @@ use Rattle.machine.specs.State.{State, state}
 use Rattle.machine.specs.Machine.{zeroed}
 use Rattle.machine.specs.WellFormed.{wellFormed}
 use Rattle.image_layout.proofs.Rows.{section-length}
-use Rattle.image_layout.specs.Join.{total, joined, allBelow}
+use Rattle.image_layout.specs.Join.{total, concatBelow, allBelow}
 use Rattle.image_layout.specs.Layout.{recordKinds, rowOf, laidOut, sectionOf, startOf, headsUpTo}
 use Rattle.image.specs.Claims.{OpensWith}
 use Rattle.image.specs.Image.{shapeOf, bodyOf, image, isEntry, entryIn, machineIn, recordIn}
@@ -37,7 +37,7 @@ module _ (m : Machine) where
   th-length = section-length (rowOf noBlocks Th) (bodyOf alone Th) (body-length-of noBlocks alone Th tt)
 
   pub opening-length : length (recordBytes m) ≡ recordLength
-  unfolding recordBytes joined
+  unfolding recordBytes concatBelow
   opening-length =
       omega (arith, length-append (sectionOf (rowOf noBlocks Hd) (bodyOf alone Hd)) (sectionOf (rowOf noBlocks Th) (bodyOf alone Th)), hd-length, th-length)
 
@@ -52,7 +52,7 @@ module _ (l : List ℕ) (h : openingNumber l ≡ none) where
 
 -- and an image opens with them
 pub opens-with : OpensWith
-unfolding image laidOut joined recordBytes
+unfolding image laidOut concatBelow recordBytes
 opens-with s =
     let w = shapeOf (s .memory) in
     let x = recordBytes (s .machine) in

@@ -8,10 +8,10 @@ use lib.ListN.{length, getD, take, drop}
 use lib.Seq.{getD-drop, getD-take}
 use Rattle.answer.specs.Answer.{Answer}
 use Rattle.image_layout.proofs.Join.{grown-whole, length-even}
-use Rattle.image_layout.proofs.Parts.{joined-same}
+use Rattle.image_layout.proofs.Parts.{concatBelow-same}
 use Rattle.image_layout.proofs.Rows.{record-room, kind-room-in, order-few}
 use Rattle.image_layout.proofs.Tests.{all-same}
-use Rattle.image_layout.specs.Join.{joined, allBelow, Grown}
+use Rattle.image_layout.specs.Join.{concatBelow, allBelow, Grown}
 use Rattle.image_layout.specs.Layout.{rowOf, kinds, orderOf, recordSize, startOf, bodyPlace, bodyAt}
 use Rattle.image.specs.Fields.{fields, threadOf}
 use Rattle.machine.specs.WellFormed.{wellFormed}
@@ -58,11 +58,11 @@ module _ (s : Shape) (l : List ℕ) (at size : ℕ) (place : (t : ℕ) → at + 
   pub entries-read : allBelow 8 (λ t. isEntry (entryAt l (at + size * t))) ≡ allBelow 8 (λ t. isEntry (entryIn s l t))
   entries-read = all-same 8 _ _ (λ t h. ap isEntry (entry-in s l t (at + size * t) (place t)))
 
-  entries-same : joined 8 (λ t. entryOr (entryAt l (at + size * t)) ∷ []) ≡ threadsIn s l
+  entries-same : concatBelow 8 (λ t. entryOr (entryAt l (at + size * t)) ∷ []) ≡ threadsIn s l
   unfolding threadsIn
-  entries-same = joined-same 8 _ _ (λ t h. ap (λ e. entryOr e ∷ []) (entry-in s l t (at + size * t) (place t)))
+  entries-same = concatBelow-same 8 _ _ (λ t h. ap (λ e. entryOr e ∷ []) (entry-in s l t (at + size * t) (place t)))
 
-  pub threads-read : {m n : List Thread} {p : ℕ} → length m ≡ 8 → Grown m n 0 p (joined 8 (λ t. entryOr (entryAt l (at + size * t)) ∷ [])) → n ≡ threadsIn s l
+  pub threads-read : {m n : List Thread} {p : ℕ} → length m ≡ 8 → Grown m n 0 p (concatBelow 8 (λ t. entryOr (entryAt l (at + size * t)) ∷ [])) → n ≡ threadsIn s l
   threads-read h g = grown-whole g (length-even 8 1 (λ t. entryOr (entryAt l (at + size * t)) ∷ []) (λ _ _. refl) ∙ sym h) ∙ entries-same
 
 -- The record.

@@ -17,7 +17,7 @@ use Rattle.machine.proofs.Tests.{neither}
 use Rattle.machine.specs.WellFormed.{wellFormed}
 use Rattle.image_layout.proofs.Rows.{whole-length}
 use Rattle.image_layout.specs.Layout.{ofBlocks, kinds, startOf, headsIn}
-use Rattle.image.specs.Calls.{Writing, writing, writeRefusal, write, Reading, reading, readRefusal, readBy, read}
+use Rattle.image.specs.Calls.{WriteResult, writing, writeRefusal, write, ReadResult, reading, readRefusal, readBy, read}
 use Rattle.image.specs.Image.{shapeOf, Lengths, image, recordIn, stateIn}
 use Rattle.image.specs.Refusal.{writeNumber, contentNumber, recordChecks, recordsNumber, readNumber}
 use Rattle.image.specs.Types.{Shape}

@@ -7,12 +7,12 @@ use native.Mathlib.Omega.{arith}
 use lib.ListN.{length, getD, take, drop}
 use lib.Seq.{take-at, drop-at, drop-drop, getD-take}
 use Rattle.answer.specs.Answer.{Answer, given, refused}
-use Rattle.machine.specs.State.{scalarPlace, lanePlace}
+use Rattle.machine.specs.State.{scalarIndex, laneIndex}
 use Rattle.machine.specs.State.{State, state}
-use Rattle.image_layout.proofs.Parts.{cut-take, joined-same, read-joined, piece-even}
+use Rattle.image_layout.proofs.Parts.{cut-take, concatBelow-same, read-concatBelow, piece-even}
 use Rattle.image_layout.proofs.Table.{laid-back}
 use Rattle.image_layout.proofs.Tests.{all-elim}
-use Rattle.image_layout.specs.Join.{joined, allBelow}
+use Rattle.image_layout.specs.Join.{concatBelow, allBelow}
 use Rattle.image_layout.specs.Layout.{ofBlocks, kinds, rowOf, orderOf, startOf, bodyPlace, bodyAt, bodyIn, laidOut, headsIn}
 use Rattle.image.proofs.Numbers.{exact}
 use Rattle.machine.proofs.Tests.{never}
@@ -20,11 +20,11 @@ use Rattle.image.specs.Fields.{fieldsOf}
 use Rattle.machine.specs.Machine.{zeroThread}
 use Rattle.little_endian.specs.Numbers.{numberAt, numberBytes, bytesOf, wordsOf}
 use Rattle.image.specs.Claims.{Words, Bytes}
-use Rattle.image.specs.Image.{fieldBytes, bodyOf, image, fieldsIn, isEntry, entryOr, entryIn, threadsIn, machineIn, roomIn, registersIn, memoryIn, stateIn}
+use Rattle.image.specs.Image.{fieldBytes, bodyOf, image, fieldsIn, isEntry, entryOr, entryIn, threadsIn, machineIn, wordsIn, registersIn, memoryIn, stateIn}
 use Rattle.image.specs.Types.{Kind, Hd, Th, Sr, Vr, Mm, Shape, Thread}
 use Rattle.image.proofs.Rooms.{room-length, body-size, memory-length}
 use Rattle.little_endian.proofs.Numbers.{words-length, word-bound}
-use Rattle.image.proofs.Words.{bytes-joined, words-joined, words-bytes, part-bound, four-of}
+use Rattle.image.proofs.Words.{bytes-concatBelow, words-concatBelow, words-bytes, part-bound, four-of}
 
 -- Lists.
 
@@ -37,9 +37,9 @@ two-of (x ∷ y ∷ z ∷ c) h = absurd (omega arith)
 -- the bytes of n words are those of the first n
 bytes-cut : (n : ℕ) (words : List ℕ) → bytesOf n words ≡ bytesOf n (take n words)
 bytes-cut n words =
-    bytes-joined n words
-    ∙ (joined-same n (λ j. numberBytes 4 (getD words j 0)) (λ j. numberBytes 4 (getD (take n words) j 0)) (λ j h. ap (numberBytes 4) (sym (getD-take n words j 0 h)))
-    ∙ sym (bytes-joined n (take n words)))
+    bytes-concatBelow n words
+    ∙ (concatBelow-same n (λ j. numberBytes 4 (getD words j 0)) (λ j. numberBytes 4 (getD (take n words) j 0)) (λ j h. ap (numberBytes 4) (sym (getD-take n words j 0 h)))
+    ∙ sym (bytes-concatBelow n (take n words)))
 
 body-bound : (a : Shape) (l : List ℕ) → Bytes l → (k : Kind) (i : ℕ) → Bytes (bodyIn a l k i)
 unfolding bodyAt
@@ -64,10 +64,10 @@ module _ (a : Shape) (l : List ℕ) (long : startOf a kinds ≤ length l) (bytes
       let o = entryIn a l i in
       let g = the-entry o (all-elim 8 (λ t. isEntry (entryIn a l t)) read i h) in
       let f = exact (fieldsIn (bodyIn a l Th i)) (entryOr o) .0 g in
-      ap (λ e. fieldBytes (fieldsOf e)) (read-joined zeroThread 8 i (λ t. entryOr (entryIn a l t)) h)
+      ap (λ e. fieldBytes (fieldsOf e)) (read-concatBelow zeroThread 8 i (λ t. entryOr (entryIn a l t)) h)
       ∙ (ap fieldBytes f ∙ four-of (bodyIn a l Th i) (body-size a l long Th i h))
 
-  -- n words of a row, from where its row of words stands in the register room
+  -- n words of a row, from where its row of words stands in the register file
   words-of : (k : Kind) (n i : ℕ) → rowOf a k .size ≡ 4 * n → i < rowOf a k .count → (p : ℕ) → take n (drop p (registersIn a l)) ≡ wordsOf n (bodyIn a l k i)
       → bytesOf n (drop p (registersIn a l)) ≡ bodyIn a l k i
   words-of k n i e h p g =
@@ -75,17 +75,17 @@ module _ (a : Shape) (l : List ℕ) (long : startOf a kinds ≤ length l) (bytes
       ∙ (ap (bytesOf n) g
       ∙ words-bytes n (bodyIn a l k i) (body-size a l long k i h ∙ e) (body-bound a l bytes k i))
 
-  room-piece : (k : Kind) (n i : ℕ) → i < rowOf a k .count → take n (drop (n * i) (roomIn a l k n)) ≡ wordsOf n (bodyIn a l k i)
-  unfolding roomIn
+  room-piece : (k : Kind) (n i : ℕ) → i < rowOf a k .count → take n (drop (n * i) (wordsIn a l k n)) ≡ wordsOf n (bodyIn a l k i)
+  unfolding wordsIn
   room-piece k n i h = piece-even (rowOf a k .count) i n (λ i. wordsOf n (bodyIn a l k i)) (λ i _. words-length n (bodyIn a l k i)) h
 
   sr : (i : ℕ) → i < 8 → bodyOf s Sr i ≡ bodyIn a l Sr i
   unfolding registersIn
   sr i h =
-      let front = roomIn a l Sr 64 in
-      let back = roomIn a l Vr 16 in
-      let z : scalarPlace i 0 ≡ 64 * i = omega arith in
-      words-of Sr 64 i refl h (scalarPlace i 0)
+      let front = wordsIn a l Sr 64 in
+      let back = wordsIn a l Vr 16 in
+      let z : scalarIndex i 0 ≡ 64 * i = omega arith in
+      words-of Sr 64 i refl h (scalarIndex i 0)
       (ap (λ p. take 64 (drop p (front ++ back))) z
       ∙ (sym (cut-take (64 * i) 64 512 (front ++ back) (omega arith))
       ∙ (ap (λ m. take 64 (drop (64 * i) m)) (take-at front back 512 (room-length a l Sr 64)) ∙ room-piece Sr 64 i h)))
@@ -93,10 +93,10 @@ module _ (a : Shape) (l : List ℕ) (long : startOf a kinds ≤ length l) (bytes
   vr : (i : ℕ) → i < 512 → bodyOf s Vr i ≡ bodyIn a l Vr i
   unfolding registersIn
   vr i h =
-      let front = roomIn a l Sr 64 in
-      let back = roomIn a l Vr 16 in
-      let z : lanePlace (i / 64) (i % 64) 0 ≡ 512 + 16 * i = omega arith in
-      words-of Vr 16 i refl h (lanePlace (i / 64) (i % 64) 0)
+      let front = wordsIn a l Sr 64 in
+      let back = wordsIn a l Vr 16 in
+      let z : laneIndex (i / 64) (i % 64) 0 ≡ 512 + 16 * i = omega arith in
+      words-of Vr 16 i refl h (laneIndex (i / 64) (i % 64) 0)
       (ap (λ p. take 16 (drop p (front ++ back))) z
       ∙ (ap (take 16) (sym (drop-drop (16 * i) 512 (front ++ back)))
       ∙ (ap (λ m. take 16 (drop (16 * i) m)) (drop-at front back 512 (room-length a l Sr 64)) ∙ room-piece Vr 16 i h)))
@@ -125,10 +125,10 @@ append-bound b [] ys f g k = g k
 append-bound b (x ∷ xs) ys f g zero = f 0
 append-bound b (x ∷ xs) ys f g (suc k) = append-bound b xs ys (λ k. f (suc k)) g k
 
-joined-bound : (b n : ℕ) (f : ℕ → List ℕ) → 0 < b → ((i k : ℕ) → getD (f i) k 0 < b) → (k : ℕ) → getD (joined n f) k 0 < b
-unfolding joined
-joined-bound b zero f p h k = p
-joined-bound b (suc n) f p h k = append-bound b (joined n f) (f n) (joined-bound b n f p h) (h n) k
+concatBelow-bound : (b n : ℕ) (f : ℕ → List ℕ) → 0 < b → ((i k : ℕ) → getD (f i) k 0 < b) → (k : ℕ) → getD (concatBelow n f) k 0 < b
+unfolding concatBelow
+concatBelow-bound b zero f p h k = p
+concatBelow-bound b (suc n) f p h k = append-bound b (concatBelow n f) (f n) (concatBelow-bound b n f p h) (h n) k
 
 one-bound : (b x : ℕ) → 0 < b → x < b → (k : ℕ) → getD (x ∷ []) k 0 < b
 one-bound b x p h zero = h
@@ -136,13 +136,13 @@ one-bound b x p h (suc k) = p
 
 words-bound : (n : ℕ) (l : List ℕ) → Bytes l → Words (wordsOf n l)
 words-bound n l h k =
-    rw (words-joined n l)
-    (joined-bound 4294967296 n (λ j. numberAt 4 l (4 * j) ∷ []) (omega arith)
+    rw (words-concatBelow n l)
+    (concatBelow-bound 4294967296 n (λ j. numberAt 4 l (4 * j) ∷ []) (omega arith)
     (λ j. one-bound 4294967296 (numberAt 4 l (4 * j)) (omega arith) (word-bound l (4 * j) h)) k)
 
 pub registers-bound : (a : Shape) (l : List ℕ) → Bytes l → Words (registersIn a l)
-unfolding registersIn roomIn
+unfolding registersIn wordsIn
 registers-bound a l h =
-    append-bound 4294967296 (roomIn a l Sr 64) (roomIn a l Vr 16)
-    (joined-bound 4294967296 8 (λ i. wordsOf 64 (bodyIn a l Sr i)) (omega arith) (λ i. words-bound 64 (bodyIn a l Sr i) (body-bound a l h Sr i)))
-    (joined-bound 4294967296 512 (λ i. wordsOf 16 (bodyIn a l Vr i)) (omega arith) (λ i. words-bound 16 (bodyIn a l Vr i) (body-bound a l h Vr i)))
+    append-bound 4294967296 (wordsIn a l Sr 64) (wordsIn a l Vr 16)
+    (concatBelow-bound 4294967296 8 (λ i. wordsOf 64 (bodyIn a l Sr i)) (omega arith) (λ i. words-bound 64 (bodyIn a l Sr i) (body-bound a l h Sr i)))
+    (concatBelow-bound 4294967296 512 (λ i. wordsOf 16 (bodyIn a l Vr i)) (omega arith) (λ i. words-bound 16 (bodyIn a l Vr i) (body-bound a l h Vr i)))

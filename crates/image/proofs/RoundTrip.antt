@@ -15,7 +15,7 @@ use Rattle.machine.specs.WellFormed.{wellFormed}
 use Rattle.image_layout.specs.Join.{allBelow}
 use Rattle.image_layout.specs.Layout.{ofBlocks, headsIn}
 use Rattle.image.specs.Calls.{writing, writeRefusal, write, reading, readRefusal, read}
-use Rattle.image.specs.Claims.{Bytes, WrittenThenRead, ReadThenWritten, Sound, ImageOf, ReadsExactly}
+use Rattle.image.specs.Claims.{Bytes, WrittenThenRead, ReadThenWritten, Writable, ImageOf, ReadsExactly}
 use Rattle.image.specs.Image.{shapeOf, image, isEntry, entryIn, machineIn, recordIn, stateIn}
 use Rattle.image.specs.Refusal.{recordsNumber}
 use Rattle.image.proofs.Refusals.{Sized, sized, sizes-none, long, lengths, room-words, words-room, length-good, write-good, write-taken, records-none, records-good, read-number, read-sized, read-taken}
@@ -91,7 +91,7 @@ module _ (l registers memory : List ℕ) (bytes : Bytes l) (h : readRefusal l re
     length = rw same-length (sizes .length);
   }
 
-  sound : Sound s
+  sound : Writable s
   sound = record {
     room = registers-length (shapeOf memory) l;
     words = registers-bound (shapeOf memory) l bytes;

@@ -7,8 +7,8 @@ use native.Mathlib.Omega.{arith}
 use lib.ListN.{length, getD, take, drop, set, length-drop}
 use lib.Seq.{getD-drop, length-take-le, take-all}
 use Rattle.image_layout.proofs.Join.{grown-none, grown-one, grown-more, grown-same}
-use Rattle.image_layout.proofs.Parts.{joined-same, joined-read, read-joined, piece-even, pieces-even}
-use Rattle.image_layout.specs.Join.{joined, Grown}
+use Rattle.image_layout.proofs.Parts.{concatBelow-same, concatBelow-read, read-concatBelow, piece-even, pieces-even}
+use Rattle.image_layout.specs.Join.{concatBelow, Grown}
 use Rattle.little_endian.proofs.Numbers.{behind, cut, part, bytes-length, word-back, bytes-back}
 use Rattle.little_endian.specs.Numbers.{numberAt, numberBytes, bytesOf, wordsOf}
 
@@ -41,15 +41,15 @@ grown-two l at a b h =
 
 -- Many: lists laid end to end.
 
-pub bytes-joined : (n : ℕ) (words : List ℕ) → bytesOf n words ≡ joined n (λ j. numberBytes 4 (getD words j 0))
-unfolding bytesOf joined
-bytes-joined zero words = refl
-bytes-joined (suc n) words = ap (λ z. z ++ numberBytes 4 (getD words n 0)) (bytes-joined n words)
+pub bytes-concatBelow : (n : ℕ) (words : List ℕ) → bytesOf n words ≡ concatBelow n (λ j. numberBytes 4 (getD words j 0))
+unfolding bytesOf concatBelow
+bytes-concatBelow zero words = refl
+bytes-concatBelow (suc n) words = ap (λ z. z ++ numberBytes 4 (getD words n 0)) (bytes-concatBelow n words)
 
-pub words-joined : (n : ℕ) (l : List ℕ) → wordsOf n l ≡ joined n (λ j. numberAt 4 l (4 * j) ∷ [])
-unfolding wordsOf joined
-words-joined zero l = refl
-words-joined (suc n) l = ap (λ z. z ++ numberAt 4 l (4 * n) ∷ []) (words-joined n l)
+pub words-concatBelow : (n : ℕ) (l : List ℕ) → wordsOf n l ≡ concatBelow n (λ j. numberAt 4 l (4 * j) ∷ [])
+unfolding wordsOf concatBelow
+words-concatBelow zero l = refl
+words-concatBelow (suc n) l = ap (λ z. z ++ numberAt 4 l (4 * n) ∷ []) (words-concatBelow n l)
 
 pub bytes-none : {l : List ℕ} (at from : ℕ) (words : List ℕ) → Grown l l at (at + 4 * 0) (bytesOf 0 (drop from words))
 unfolding bytesOf
@@ -79,25 +79,25 @@ words-more {r = r} from j at w bytes g e h =
 -- the words of more bytes than they have
 pub words-cut : (n : ℕ) (l : List ℕ) → wordsOf n (take (4 * n) l) ≡ wordsOf n l
 words-cut n l =
-    words-joined n (take (4 * n) l)
-    ∙ (joined-same n (λ j. numberAt 4 (take (4 * n) l) (4 * j) ∷ []) (λ j. numberAt 4 l (4 * j) ∷ [])
+    words-concatBelow n (take (4 * n) l)
+    ∙ (concatBelow-same n (λ j. numberAt 4 (take (4 * n) l) (4 * j) ∷ []) (λ j. numberAt 4 l (4 * j) ∷ [])
     (λ j h. ap (λ z. z ∷ []) (cut 4 (4 * n) l (4 * j) (omega arith)))
-    ∙ sym (words-joined n l))
+    ∙ sym (words-concatBelow n l))
 
 -- words in bytes and back
 module _ (n : ℕ) (words : List ℕ) (h : n ≤ length words) (b : (k : ℕ) → getD words k 0 < 4294967296) where
   word-again : (j : ℕ) → j < n → numberAt 4 (bytesOf n words) (4 * j) ≡ getD words (0 + j) 0
   word-again j k =
       sym (part 4 (bytesOf n words) (4 * j))
-      ∙ (ap (λ z. numberAt 4 (take 4 (drop (4 * j) z)) 0) (bytes-joined n words)
+      ∙ (ap (λ z. numberAt 4 (take 4 (drop (4 * j) z)) 0) (bytes-concatBelow n words)
       ∙ (ap (λ z. numberAt 4 z 0) (piece-even n j 4 (λ j. numberBytes 4 (getD words j 0)) (λ i _. bytes-length 4 (getD words i 0)) k)
       ∙ (word-back (getD words j 0) (b j) ∙ ap (λ z. getD words z 0) (let z : j ≡ 0 + j = omega arith in z))))
 
   pub words-back : wordsOf n (bytesOf n words) ≡ take n words
   words-back =
-      words-joined n (bytesOf n words)
-      ∙ (joined-same n (λ j. numberAt 4 (bytesOf n words) (4 * j) ∷ []) (λ j. getD words (0 + j) 0 ∷ []) (λ j k. ap (λ z. z ∷ []) (word-again j k))
-      ∙ joined-read 0 n 0 words (omega arith))
+      words-concatBelow n (bytesOf n words)
+      ∙ (concatBelow-same n (λ j. numberAt 4 (bytesOf n words) (4 * j) ∷ []) (λ j. getD words (0 + j) 0 ∷ []) (λ j k. ap (λ z. z ∷ []) (word-again j k))
+      ∙ concatBelow-read 0 n 0 words (omega arith))
 
 take-bound : (w : ℕ) (l : List ℕ) → ((k : ℕ) → getD l k 0 < 256) → (k : ℕ) → getD (take w l) k 0 < 256
 take-bound zero l h k = omega arith
@@ -112,13 +112,13 @@ part-bound w p l h = take-bound w (drop p l) (λ k. rw (getD-drop p l k 0) (h (p
 module _ (n : ℕ) (l : List ℕ) (e : length l ≡ 4 * n) (b : (k : ℕ) → getD l k 0 < 256) where
   four-again : (j : ℕ) → j < n → numberBytes 4 (getD (wordsOf n l) j 0) ≡ take 4 (drop (0 + 4 * j) l)
   four-again j h =
-      ap (λ z. numberBytes 4 (getD z j 0)) (words-joined n l)
-      ∙ (ap (numberBytes 4) (read-joined 0 n j (λ j. numberAt 4 l (4 * j)) h ∙ sym (part 4 l (4 * j)))
+      ap (λ z. numberBytes 4 (getD z j 0)) (words-concatBelow n l)
+      ∙ (ap (numberBytes 4) (read-concatBelow 0 n j (λ j. numberAt 4 l (4 * j)) h ∙ sym (part 4 l (4 * j)))
       ∙ (bytes-back 4 (take 4 (drop (4 * j) l)) (length-take-le 4 (drop (4 * j) l) (rw (length-drop (4 * j) l) (omega arith))) (part-bound 4 (4 * j) l b)
       ∙ ap (λ z. take 4 (drop z l)) (let z : 4 * j ≡ 0 + 4 * j = omega arith in z)))
 
   pub words-bytes : bytesOf n (wordsOf n l) ≡ l
   words-bytes =
-      bytes-joined n (wordsOf n l)
-      ∙ (joined-same n (λ j. numberBytes 4 (getD (wordsOf n l) j 0)) (λ j. take 4 (drop (0 + 4 * j) l)) four-again
+      bytes-concatBelow n (wordsOf n l)
+      ∙ (concatBelow-same n (λ j. numberBytes 4 (getD (wordsOf n l) j 0)) (λ j. take 4 (drop (0 + 4 * j) l)) four-again
       ∙ (pieces-even n 4 0 l ∙ take-all (4 * n) l (omega arith)))

@@ -8,13 +8,13 @@ use native.Mathlib.Omega.{arith}
 use lib.ListN.{length, getD, take, drop, length-drop}
 use lib.Seq.{take-all, take-add, getD-drop}
 use Rattle.answer.specs.Answer.{given}
-use Rattle.machine.specs.State.{scalarPlace, lanePlace}
+use Rattle.machine.specs.State.{scalarIndex, laneIndex}
 use Rattle.machine.specs.State.{State, state}
 use Rattle.image_layout.proofs.Join.{fits-in}
-use Rattle.image_layout.proofs.Parts.{joined-same, joined-read, pieces-even}
+use Rattle.image_layout.proofs.Parts.{concatBelow-same, concatBelow-read, pieces-even}
 use Rattle.image_layout.proofs.Table.{laid-body, laid-heads}
 use Rattle.image_layout.proofs.Tests.{two, all-intro}
-use Rattle.image_layout.specs.Join.{joined, allBelow}
+use Rattle.image_layout.specs.Join.{concatBelow, allBelow}
 use Rattle.image_layout.specs.Layout.{rowOf, bodyIn, headsIn}
 use Rattle.image.proofs.Numbers.{exact}
 use Rattle.image.specs.Fields.{fieldsOf}
@@ -24,7 +24,7 @@ use Rattle.machine.specs.Status.{limits}
 use Rattle.machine.specs.WellFormed.{wellFormed}
 use Rattle.little_endian.specs.Numbers.{bytesOf, wordsOf}
 use Rattle.image.specs.Claims.{Words}
-use Rattle.image.specs.Image.{shapeOf, Lengths, bodyOf, image, fieldsIn, isEntry, entryOr, entryIn, threadsIn, machineIn, recordIn, roomIn, registersIn, memoryIn, stateIn}
+use Rattle.image.specs.Image.{shapeOf, Lengths, bodyOf, image, fieldsIn, isEntry, entryOr, entryIn, threadsIn, machineIn, recordIn, wordsIn, registersIn, memoryIn, stateIn}
 use Rattle.image.specs.Types.{Kind, Hd, Th, Sr, Vr, Mm, Shape, Machine, Thread}
 use Rattle.image.proofs.Bodies.{body-length}
 use Rattle.image.proofs.Words.{words-back}
@@ -51,9 +51,9 @@ module _ (a : Shape) (l : List ℕ) (m : Machine) (h : wellFormed m ≡ true) (h
   threads-held : threadsIn a l ≡ m .threads
   unfolding threadsIn
   threads-held =
-      joined-same 8 (λ t. entryOr (entryIn a l t) ∷ []) (λ t. getD (m .threads) (0 + t) zeroThread ∷ [])
+      concatBelow-same 8 (λ t. entryOr (entryIn a l t) ∷ []) (λ t. getD (m .threads) (0 + t) zeroThread ∷ [])
       (λ t k. ap (λ e. entryOr e ∷ []) (entry-held t k) ∙ ap (λ z. entry z ∷ []) (let z : t ≡ 0 + t = omega arith in z))
-      ∙ (joined-read zeroThread 8 0 (m .threads) (omega (arith, eight m h)) ∙ take-all 8 (m .threads) (le-of-eq (eight m h)))
+      ∙ (concatBelow-read zeroThread 8 0 (m .threads) (omega (arith, eight m h)) ∙ take-all 8 (m .threads) (le-of-eq (eight m h)))
 
   pub machine-held : machineIn a l ≡ m
   unfolding machineIn
@@ -69,9 +69,9 @@ module _ (a : Shape) (l : List ℕ) (m : Machine) (h : wellFormed m ≡ true) (h
 -- Words laid out in rows of n, from place p on.
 
 rows-back : (n count p : ℕ) (words : List ℕ) → Words words → p + n * count ≤ length words
-    → joined count (λ i. wordsOf n (bytesOf n (drop (p + n * i) words))) ≡ take (n * count) (drop p words)
+    → concatBelow count (λ i. wordsOf n (bytesOf n (drop (p + n * i) words))) ≡ take (n * count) (drop p words)
 rows-back n count p words b room =
-    joined-same count (λ i. wordsOf n (bytesOf n (drop (p + n * i) words))) (λ i. take n (drop (p + n * i) words))
+    concatBelow-same count (λ i. wordsOf n (bytesOf n (drop (p + n * i) words))) (λ i. take n (drop (p + n * i) words))
     (λ i h. words-back n (drop (p + n * i) words) (rw (length-drop (p + n * i) words) (omega (arith, fits-in n i count h))) (λ k. rw (getD-drop (p + n * i) words k 0) (b (p + n * i + k))))
     ∙ pieces-even count n p words
 
@@ -93,22 +93,22 @@ module _ (s : State) (w : Lengths (shapeOf (s .memory)) (s .registers) (s .memor
   pub memory-back : memoryIn a l ≡ s .memory
   unfolding memoryIn
   memory-back =
-      joined-same (a .blocks) (bodyIn a l Mm) (λ i. take 64 (drop (0 + 64 * i) (s .memory))) (λ i h. body Mm i h ∙ ap (λ p. take 64 (drop p (s .memory))) (let z : 64 * i ≡ 0 + 64 * i = omega arith in z))
+      concatBelow-same (a .blocks) (bodyIn a l Mm) (λ i. take 64 (drop (0 + 64 * i) (s .memory))) (λ i h. body Mm i h ∙ ap (λ p. take 64 (drop p (s .memory))) (let z : 64 * i ≡ 0 + 64 * i = omega arith in z))
       ∙ (pieces-even (a .blocks) 64 0 (s .memory) ∙ take-all (64 * a .blocks) (s .memory) (omega (arith, w .whole)))
 
   module _ (b : Words (s .registers)) where
-    scalars : roomIn a l Sr 64 ≡ take 512 (s .registers)
-    unfolding roomIn
+    scalars : wordsIn a l Sr 64 ≡ take 512 (s .registers)
+    unfolding wordsIn
     scalars =
-        joined-same 8 (λ i. wordsOf 64 (bodyIn a l Sr i)) (λ i. wordsOf 64 (bytesOf 64 (drop (0 + 64 * i) (s .registers))))
-        (λ i h. ap (wordsOf 64) (body Sr i h ∙ ap (λ p. bytesOf 64 (drop p (s .registers))) (let z : scalarPlace i 0 ≡ 0 + 64 * i = omega arith in z)))
+        concatBelow-same 8 (λ i. wordsOf 64 (bodyIn a l Sr i)) (λ i. wordsOf 64 (bytesOf 64 (drop (0 + 64 * i) (s .registers))))
+        (λ i h. ap (wordsOf 64) (body Sr i h ∙ ap (λ p. bytesOf 64 (drop p (s .registers))) (let z : scalarIndex i 0 ≡ 0 + 64 * i = omega arith in z)))
         ∙ rows-back 64 8 0 (s .registers) b (omega (arith, w .room))
 
-    vectors : roomIn a l Vr 16 ≡ take 8192 (drop 512 (s .registers))
-    unfolding roomIn
+    vectors : wordsIn a l Vr 16 ≡ take 8192 (drop 512 (s .registers))
+    unfolding wordsIn
     vectors =
-        joined-same 512 (λ i. wordsOf 16 (bodyIn a l Vr i)) (λ i. wordsOf 16 (bytesOf 16 (drop (512 + 16 * i) (s .registers))))
-        (λ i h. ap (wordsOf 16) (body Vr i h ∙ ap (λ p. bytesOf 16 (drop p (s .registers))) (let z : lanePlace (i / 64) (i % 64) 0 ≡ 512 + 16 * i = omega arith in z)))
+        concatBelow-same 512 (λ i. wordsOf 16 (bodyIn a l Vr i)) (λ i. wordsOf 16 (bytesOf 16 (drop (512 + 16 * i) (s .registers))))
+        (λ i h. ap (wordsOf 16) (body Vr i h ∙ ap (λ p. bytesOf 16 (drop p (s .registers))) (let z : laneIndex (i / 64) (i % 64) 0 ≡ 512 + 16 * i = omega arith in z)))
         ∙ rows-back 16 512 512 (s .registers) b (omega (arith, w .room))
 
     pub registers-back : registersIn a l ≡ s .registers

@@ -14,14 +14,14 @@ use Rattle.image.specs.Types.{Shape, WriteAnswer, Read}
 
 -- Writing: the answer, and the buffer left.
 
-pub record Writing : Type 0 where
+pub record WriteResult : Type 0 where
   pub answer : Answer (Unit {0})
   pub buffer : List ℕ
 
-abbrev pub writing : Answer (Unit {0}) → List ℕ → Writing
+abbrev pub writing : Answer (Unit {0}) → List ℕ → WriteResult
 writing answer buffer = record { answer = answer; buffer = buffer }
 
-abbrev pub written : WriteAnswer → List ℕ → Writing
+abbrev pub written : WriteAnswer → List ℕ → WriteResult
 written r buffer = writing (writeAnswered r) buffer
 
 -- the number that the table gives the writing of a state into a buffer
@@ -29,29 +29,29 @@ abbrev pub writeRefusal : State → List ℕ → Option ℕ
 writeRefusal s buffer = writeNumber (length (s .registers)) (length (s .memory)) (length buffer) (s .machine)
 
 -- "A refusal changes no lent buffer"
-unfoldable pub write : State → List ℕ → Writing
+unfoldable pub write : State → List ℕ → WriteResult
 write s buffer = refusedOr (writeRefusal s buffer) (λ number. writing (refused number) buffer) (writing (given tt) (image s))
 
 -- Reading: the answer, and the machine handed back and left.
 
-pub record Reading : Type 0 where
+pub record ReadResult : Type 0 where
   pub answer : Answer (Unit {0})
   pub left : State
 
-abbrev pub reading : Answer (Unit {0}) → State → Reading
+abbrev pub reading : Answer (Unit {0}) → State → ReadResult
 reading answer left = record { answer = answer; left = left }
 
-abbrev pub restored : Read → List ℕ → List ℕ → Reading
+abbrev pub restored : Read → List ℕ → List ℕ → ReadResult
 restored r registers memory = reading (readAnswered (r .answer)) (state (r .machine) registers memory)
 
--- the number that the table gives the reading of an image into a register room and a memory
+-- the number that the table gives the reading of an image into a register file and a memory
 abbrev pub readRefusal : List ℕ → List ℕ → List ℕ → Option ℕ
 readRefusal l registers memory = readNumber l (length registers) (length memory)
 
 -- "A refusal changes no lent buffer .. start and image reading, which get none, hand back a record with every number 0."
-abbrev pub readBy : Option ℕ → Shape → List ℕ → List ℕ → List ℕ → Reading
+abbrev pub readBy : Option ℕ → Shape → List ℕ → List ℕ → List ℕ → ReadResult
 readBy number a l registers memory =
     refusedOr number (λ n. reading (refused n) (state zeroed registers memory)) (reading (given tt) (stateIn a l))
 
-unfoldable pub read : List ℕ → List ℕ → List ℕ → Reading
+unfoldable pub read : List ℕ → List ℕ → List ℕ → ReadResult
 read l registers memory = readBy (readRefusal l registers memory) (shapeOf memory) l registers memory

@@ -7,7 +7,7 @@ use mathlib.Core.Option.{none}
 use mathlib.Core.Path.{_≡_}
 use lib.ListN.{length, getD, take}
 use Rattle.answer.specs.Answer.{given}
-use Rattle.answer.specs.Refusal.{roomWords, badMemory, fixedPart, imageLength}
+use Rattle.answer.specs.Refusal.{registerWords, badMemory, fixedPart, imageLength}
 use Rattle.machine.specs.State.{State}
 use Rattle.machine.specs.WellFormed.{wellFormed}
 use Rattle.image_layout.specs.Layout.{kinds, rowOf, orderOf, startOf, bodyIn}
@@ -15,7 +15,7 @@ use Rattle.image.specs.Calls.{writing, write, reading, read}
 use Rattle.image.specs.Fields.{fieldsOf, threadOf}
 use Rattle.image.specs.Image.{shapeOf, bodyOf, image}
 use Rattle.image.specs.Opening.{recordBytes, recordLength, opened, readOpening}
-use Rattle.image.specs.Types.{Kind, Hd, Th, Sr, Vr, Mm, Machine, Thread, Fields}
+use Rattle.image.specs.Types.{Kind, Hd, Th, Sr, Vr, Mm, Machine, Thread, ThreadFields}
 
 -- every number of a list is a word, or a byte: what a lent slice of them says by its type
 abbrev pub Words : List ℕ → Type 0
@@ -25,8 +25,8 @@ abbrev pub Bytes : List ℕ → Type 0
 Bytes l = (n : ℕ) → getD l n 0 < 256
 
 -- a state that a writer takes
-pub record Sound (s : State) : Type 0 where
-  pub room : length (s .registers) ≡ roomWords
+pub record Writable (s : State) : Type 0 where
+  pub room : length (s .registers) ≡ registerWords
   pub words : Words (s .registers)
   pub memory : badMemory (length (s .memory)) ≡ false
   pub well-formed : wellFormed (s .machine) ≡ true
@@ -47,7 +47,7 @@ Begins = (memory : List ℕ) → Beginnings memory
 
 -- what a record holds stands at its fixed place
 abbrev pub Placed : Type 0
-Placed = (s : State) → Sound s → (k : Kind) (i : ℕ) → i < rowOf (shapeOf (s .memory)) k .count → bodyIn (shapeOf (s .memory)) (image s) k i ≡ bodyOf s k i
+Placed = (s : State) → Writable s → (k : Kind) (i : ℕ) → i < rowOf (shapeOf (s .memory)) k .count → bodyIn (shapeOf (s .memory)) (image s) k i ≡ bodyOf s k i
 
 -- the bytes of the machine record alone are those that its image opens with
 abbrev pub OpensWith : Type 0
@@ -61,7 +61,7 @@ RecordAgain = (m : Machine) → wellFormed m ≡ true → readOpening (recordByt
 
 -- numbers are read as an entry exactly if they are its own
 abbrev pub Exact : Type 0
-Exact = (f : Fields) (e : Thread) → (threadOf f ≡ given e) ↔ (fieldsOf e ≡ f)
+Exact = (f : ThreadFields) (e : Thread) → (threadOf f ≡ given e) ↔ (fieldsOf e ≡ f)
 
 -- "Writing then reading gives the same machine": for every state that the writer accepts, whatever the buffers read into held
 abbrev pub WrittenThenRead : Type 0
@@ -77,11 +77,11 @@ ReadThenWritten = (l registers memory buffer : List ℕ) → Bytes l → read l 
 -- l is the image of such a state with a memory of so many bytes
 pub record ImageOf (l : List ℕ) (bytes : ℕ) : Type 0 where
   pub saved : State
-  pub sound : Sound saved
+  pub sound : Writable saved
   pub size : length (saved .memory) ≡ bytes
   pub same : image saved ≡ l
 
 -- the reader accepts exactly the images of well-formed states, of memories as long as the one lent
 abbrev pub ReadsExactly : Type 0
 ReadsExactly = (l registers memory : List ℕ) → Bytes l
-    → (read l registers memory .answer ≡ given tt) ↔ ((length registers ≡ roomWords) × ImageOf l (length memory))
+    → (read l registers memory .answer ≡ given tt) ↔ ((length registers ≡ registerWords) × ImageOf l (length memory))

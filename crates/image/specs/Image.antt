@@ -5,16 +5,16 @@ use mathlib.Core.List.{List, [], _∷_, _++_}
 use mathlib.Core.Path.{_≡_}
 use lib.ListN.{length, getD, take, drop}
 use Rattle.answer.specs.Answer.{Answer, given, refused}
-use Rattle.answer.specs.Refusal.{roomWords}
-use Rattle.machine.specs.State.{scalarPlace, lanePlace}
+use Rattle.answer.specs.Refusal.{registerWords}
+use Rattle.machine.specs.State.{scalarIndex, laneIndex}
 use Rattle.machine.specs.State.{State, state}
 use Rattle.machine.specs.Machine.{zeroThread}
 use Rattle.machine.specs.WellFormed.{wellFormed}
-use Rattle.image_layout.specs.Join.{joined, allBelow}
+use Rattle.image_layout.specs.Join.{concatBelow, allBelow}
 use Rattle.image_layout.specs.Layout.{ofBlocks, rowOf, laidOut, bodyIn}
 use Rattle.little_endian.specs.Numbers.{bytesOf, wordsOf}
 use Rattle.image.specs.Fields.{fields, fieldsOf, threadOf}
-use Rattle.image.specs.Types.{Kind, Hd, Th, Sr, Vr, Mm, Shape, Machine, Thread, Fields}
+use Rattle.image.specs.Types.{Kind, Hd, Th, Sr, Vr, Mm, Shape, Machine, Thread, ThreadFields}
 
 -- the shape of an image goes by the length of the memory
 abbrev pub shapeOf : List ℕ → Shape
@@ -22,7 +22,7 @@ shapeOf memory = ofBlocks (length memory / 64)
 
 -- the lengths of the buffers lent to a call that is not refused, of an image of a shape
 pub record Lengths (a : Shape) (registers memory : List ℕ) : Type 0 where
-  pub room : length registers ≡ roomWords
+  pub room : length registers ≡ registerWords
   pub whole : 64 * a .blocks ≡ length memory
   pub few : a .blocks ≤ 1024
 
@@ -37,7 +37,7 @@ Suits a Mm registers memory = Lengths a registers memory
 -- Writing.
 
 -- "status, reason, id, count (0 where not carried)"
-abbrev pub fieldBytes : Fields → List ℕ
+abbrev pub fieldBytes : ThreadFields → List ℕ
 fieldBytes f = f .status ∷ f .reason ∷ f .id ∷ f .count ∷ []
 
 -- what stands behind the place numbers of record i of a kind: "HD, last, enabled; eight TH: .. status, reason, id, count ..; eight SR:
@@ -45,8 +45,8 @@ fieldBytes f = f .status ∷ f .reason ∷ f .id ∷ f .count ∷ []
 abbrev pub bodyOf : State → Kind → ℕ → List ℕ
 bodyOf s Hd i = s .machine .last ∷ s .machine .enabled ∷ []
 bodyOf s Th i = fieldBytes (fieldsOf (getD (s .machine .threads) i zeroThread))
-bodyOf s Sr i = bytesOf 64 (drop (scalarPlace i 0) (s .registers))
-bodyOf s Vr i = bytesOf 16 (drop (lanePlace (i / 64) (i % 64) 0) (s .registers))
+bodyOf s Sr i = bytesOf 64 (drop (scalarIndex i 0) (s .registers))
+bodyOf s Vr i = bytesOf 16 (drop (laneIndex (i / 64) (i % 64) 0) (s .registers))
 bodyOf s Mm i = take 64 (drop (64 * i) (s .memory))
 
 -- the image of a machine
@@ -55,7 +55,7 @@ image s = laidOut (shapeOf (s .memory)) (bodyOf s)
 
 -- Reading.
 
-abbrev pub fieldsIn : List ℕ → Fields
+abbrev pub fieldsIn : List ℕ → ThreadFields
 fieldsIn body = fields (getD body 0 0) (getD body 1 0) (getD body 2 0) (getD body 3 0)
 
 -- whether numbers are read as an entry, and as which
@@ -71,9 +71,9 @@ unfoldable pub entryIn : Shape → List ℕ → ℕ → Answer Thread
 entryIn a l t = threadOf (fieldsIn (bodyIn a l Th t))
 
 unfoldable pub threadsIn : Shape → List ℕ → List Thread
-threadsIn a l = joined 8 (λ t. entryOr (entryIn a l t) ∷ [])
+threadsIn a l = concatBelow 8 (λ t. entryOr (entryIn a l t) ∷ [])
 
--- the machine record that an image of a shape holds, its register room, and its memory
+-- the machine record that an image of a shape holds, its register file, and its memory
 unfoldable pub machineIn : Shape → List ℕ → Machine
 machineIn a l =
     record { enabled = getD (bodyIn a l Hd 0) 1 0; last = getD (bodyIn a l Hd 0) 0 0; threads = threadsIn a l }
@@ -83,14 +83,14 @@ unfoldable pub recordIn : Shape → List ℕ → Bool
 recordIn a l = allBelow 8 (λ t. isEntry (entryIn a l t)) && wellFormed (machineIn a l)
 
 -- the words of every record of a kind, n in each
-unfoldable pub roomIn : Shape → List ℕ → Kind → ℕ → List ℕ
-roomIn a l k n = joined (rowOf a k .count) (λ i. wordsOf n (bodyIn a l k i))
+unfoldable pub wordsIn : Shape → List ℕ → Kind → ℕ → List ℕ
+wordsIn a l k n = concatBelow (rowOf a k .count) (λ i. wordsOf n (bodyIn a l k i))
 
 unfoldable pub registersIn : Shape → List ℕ → List ℕ
-registersIn a l = roomIn a l Sr 64 ++ roomIn a l Vr 16
+registersIn a l = wordsIn a l Sr 64 ++ wordsIn a l Vr 16
 
 unfoldable pub memoryIn : Shape → List ℕ → List ℕ
-memoryIn a l = joined (rowOf a Mm .count) (bodyIn a l Mm)
+memoryIn a l = concatBelow (rowOf a Mm .count) (bodyIn a l Mm)
 
 abbrev pub stateIn : Shape → List ℕ → State
 stateIn a l = state (machineIn a l) (registersIn a l) (memoryIn a l)

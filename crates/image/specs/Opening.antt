@@ -2,7 +2,7 @@
 use Prim.Native.Nat.{ℕ}
 use mathlib.Core.List.{List, []}
 use mathlib.Core.Option.{Option}
-use Rattle.answer.specs.Refusal.{Check, firstThatApplies, numbered, refusedOr}
+use Rattle.answer.specs.Refusal.{Check, firstThatApplies, numberOf, refusedOr}
 use Rattle.machine.specs.State.{state}
 use Rattle.machine.specs.Machine.{zeroed}
 use Rattle.image_layout.specs.Layout.{ofBlocks, recordKinds, laidUpTo, headsUpTo}
@@ -37,7 +37,7 @@ abbrev pub opened : Option ℕ → Machine → Opening
 opened number m = record { number = number; machine = m }
 
 abbrev pub judged : Judgement → Opening
-judged r = opened (numbered (r .verdict)) (r .machine)
+judged r = opened (numberOf (r .verdict)) (r .machine)
 
 unfoldable pub readOpening : List ℕ → Opening
 readOpening l = opened (openingNumber l) (refusedOr (openingNumber l) (λ n. zeroed) (machineIn noBlocks l))

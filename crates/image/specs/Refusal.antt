@@ -29,6 +29,6 @@ recordChecks s l = contentChecks (headsIn s l) (recordIn s l)
 unfoldable pub recordsNumber : Shape → List ℕ → Option ℕ
 recordsNumber s l = firstThatApplies (recordChecks s l)
 
--- of an image, read into a register room of so many words and a memory of so many bytes
+-- of an image, read into a register file of so many words and a memory of so many bytes
 unfoldable pub readNumber : List ℕ → ℕ → ℕ → Option ℕ
 readNumber l room bytes = firstThatApplies (sizeChecks fixedPart room bytes (length l) ++ recordChecks (ofBlocks (bytes / 64)) l)

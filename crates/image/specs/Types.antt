@@ -1,9 +1,9 @@
--- The types that the code declares, and those of the crates below, under one roof.
+-- The types that the code declares, and those of the crates below, in one module.
 pub use Rattle.image_layout.specs.declared.layout.Kind.{Kind}
 pub use Rattle.image_layout.specs.declared.layout.Kind.the-variants.{Hd, Th, Sr, Vr, Mm}
 pub use Rattle.image_layout.specs.declared.layout.Shape.{Shape}
 pub use Rattle.image.specs.declared.verdicts.Judgement.{Judgement}
-pub use Rattle.image.specs.declared.fields.Fields.{Fields}
+pub use Rattle.image.specs.declared.fields.ThreadFields.{ThreadFields}
 pub use Rattle.image.specs.declared.fields.EntryReading.{EntryReading}
 pub use Rattle.image.specs.declared.fields.EntryReading.the-variants.{Entry, Refused as EntryRefused}
 pub use Rattle.image.specs.declared.outcome.WriteAnswer.{WriteAnswer}

@@ -8,7 +8,7 @@ ghost use Rattle.image.specs.Answer.{entryAnswered};
 ghost use Rattle.image.specs.Fields.{threadOf};
 ghost use Rattle.image.specs.Image.{fieldsIn, isEntry, entryOr, entryIn, threadsIn, machineIn, recordIn};
 use crate::fields::EntryReading;
-use crate::fields::Fields;
+use crate::fields::ThreadFields;
 use crate::fields::read_entry;
 use image_layout::Kind;
 use image_layout::Shape;
@@ -56,7 +56,7 @@ fn entry_at(image: &[u8], at: usize) -> EntryReading
     requires { ⌜ at + 4 ≤ length (now image) ⌝ }
     ensures { λ r. ⌜ entryAnswered r ≡ threadOf (fieldsIn (take 4 (drop at (now (image .entry))))) ⌝ }
 {
-    read_entry(Fields {
+    read_entry(ThreadFields {
         status: image[at],
         reason: image[at + 1],
         id: image[at + 2],

@@ -2,12 +2,12 @@
 ghost use mathlib.Core.Option.{some};
 ghost use mathlib.Core.Path.{_≡_};
 ghost use Rattle.image.specs.Answer.{entryAnswered};
-ghost use Rattle.image.specs.Fields.{fields, sameFields, fieldsOf, accepted, threadOf};
+ghost use Rattle.image.specs.Fields.{fields, sameFields, fieldsOf, checkedThread, threadOf};
 use machine::Status;
 use machine::Thread;
 
 // The numbers of an entry, 0 where its status does not carry them.
-pub struct Fields {
+pub struct ThreadFields {
     pub status: u8,
     pub reason: u8,
     pub id: u8,
@@ -21,10 +21,10 @@ pub enum EntryReading {
 }
 
 // The numbers by their places.
-fn numbers(status: u8, reason: u8, id: u8, count: u8) -> Fields
+fn numbers(status: u8, reason: u8, id: u8, count: u8) -> ThreadFields
     ensures { λ r. ⌜ r ≡ fields status reason id count ⌝ }
 {
-    Fields {
+    ThreadFields {
         status,
         reason,
         id,
@@ -33,14 +33,14 @@ fn numbers(status: u8, reason: u8, id: u8, count: u8) -> Fields
 }
 
 // Whether the numbers are the same.
-fn same_fields(a: Fields, b: Fields) -> bool
+fn same_fields(a: ThreadFields, b: ThreadFields) -> bool
     ensures { λ r. ⌜ r ≡ sameFields a b ⌝ }
 {
     (a.status == b.status) & (a.reason == b.reason) & (a.id == b.id) & (a.count == b.count)
 }
 
 // The numbers of an entry.
-pub fn fields_of(thread: Thread) -> Fields
+pub fn fields_of(thread: Thread) -> ThreadFields
     ensures { λ r. ⌜ r ≡ fieldsOf thread ⌝ }
 {
     let status = thread.status;
@@ -54,8 +54,8 @@ pub fn fields_of(thread: Thread) -> Fields
 }
 
 // The entry with a status, if the numbers are its own.
-fn accept(status: Status, fields: Fields) -> EntryReading
-    ensures { λ r. ⌜ entryAnswered r ≡ accepted fields (some status) ⌝ }
+fn accept(status: Status, fields: ThreadFields) -> EntryReading
+    ensures { λ r. ⌜ entryAnswered r ≡ checkedThread fields (some status) ⌝ }
 {
     let thread = Thread::of_status(status);
     if same_fields(fields_of(thread), fields) {
@@ -65,7 +65,7 @@ fn accept(status: Status, fields: Fields) -> EntryReading
 }
 
 // The entry that has these numbers, if one has.
-pub fn read_entry(fields: Fields) -> EntryReading
+pub fn read_entry(fields: ThreadFields) -> EntryReading
     ensures { λ r. ⌜ entryAnswered r ≡ threadOf fields ⌝ }
 {
     let number = fields.status;

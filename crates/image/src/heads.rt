@@ -5,7 +5,7 @@ ghost use lib.ListN.{length};
 ghost use Rattle.image_layout.specs.Join.{Grown};
 ghost use Rattle.image_layout.specs.Layout.{placesOf, placesLength, Numbered, headLength, headOf, extentOf, startOf, headsOf, headsUpTo};
 use image_layout::Places;
-use image_layout::Row;
+use image_layout::RecordRow;
 use image_layout::Shape;
 use image_layout::extent_of;
 use image_layout::head_stands;
@@ -38,7 +38,7 @@ fn put_places(places: Places, i: usize, buffer: &mut [u8], at: usize) -> usize
 }
 
 // What record i opens with stored from a place on; the next place.
-pub fn put_head(row: Row, i: usize, buffer: &mut [u8], at: usize) -> usize
+pub fn put_head(row: RecordRow, i: usize, buffer: &mut [u8], at: usize) -> usize
     requires { ⌜ Numbered (row .places) i × (at + headLength (row .places) ≤ length (now buffer)) ⌝ }
     ensures { λ r. ⌜ Grown (now (buffer .entry)) (now (buffer .exit)) at r (headOf row i) ⌝ }
 {
@@ -49,7 +49,7 @@ pub fn put_head(row: Row, i: usize, buffer: &mut [u8], at: usize) -> usize
 }
 
 // Whether every record of a row that begins at a place opens so.
-fn heads_stand(row: Row, image: &[u8], at: usize) -> bool
+fn heads_stand(row: RecordRow, image: &[u8], at: usize) -> bool
     requires { ⌜ at + extentOf row ≤ length (now image) ⌝ }
     ensures { λ r. ⌜ r ≡ headsOf row (now (image .entry)) at ⌝ }
 {

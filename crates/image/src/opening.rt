@@ -15,7 +15,7 @@ use machine::Machine;
 // How many bytes a machine record has.
 pub const RECORD_LENGTH: usize = 60;
 
-// HD and TH stored. They hold no word of the register room and no byte of memory.
+// HD and TH stored. They hold no word of the register file and no byte of memory.
 fn put_opening(machine: Machine, buffer: &mut [u8])
     requires { ⌜ length (now buffer) ≡ recordLength ⌝ }
     ensures { λ _. ⌜ now (buffer .exit) ≡ recordBytes machine ⌝ }

@@ -2,11 +2,11 @@
 ghost use Prim.Native.Nat.{_+_, _*_, _≤_};
 ghost use mathlib.Core.Path.{_≡_};
 ghost use lib.ListN.{length};
-ghost use Rattle.answer.specs.Refusal.{roomWords};
+ghost use Rattle.answer.specs.Refusal.{registerWords};
 ghost use Rattle.image_layout.specs.Join.{Grown};
 ghost use Rattle.image_layout.specs.Layout.{rowOf, kinds, startOf};
 ghost use Rattle.image.specs.Calls.{restored, readBy, read};
-ghost use Rattle.image.specs.Image.{Lengths, roomIn, registersIn, memoryIn};
+ghost use Rattle.image.specs.Image.{Lengths, wordsIn, registersIn, memoryIn};
 ghost use Rattle.image.specs.Refusal.{recordsNumber};
 use crate::bytes::copy_eights;
 use crate::bytes::take_words;
@@ -24,9 +24,9 @@ use image_layout::row_of;
 use machine::Machine;
 
 // The words of every record of a kind, n in each, stored from a place on.
-fn take_room(shape: Shape, kind: Kind, n: usize, image: &[u8], registers: &mut [u32], from: usize)
+fn take_bodies(shape: Shape, kind: Kind, n: usize, image: &[u8], registers: &mut [u32], from: usize)
     requires { ⌜ (startOf shape kinds ≤ length (now image)) × (rowOf shape kind .size ≡ 4 * n) × (from + n * rowOf shape kind .count ≤ length (now registers)) ⌝ }
-    ensures { λ _. ⌜ Grown (now (registers .entry)) (now (registers .exit)) from (from + n * rowOf shape kind .count) (roomIn shape (now (image .entry)) kind n) ⌝ }
+    ensures { λ _. ⌜ Grown (now (registers .entry)) (now (registers .exit)) from (from + n * rowOf shape kind .count) (wordsIn shape (now (image .entry)) kind n) ⌝ }
 {
     let row = row_of(shape, kind);
     let count = row.count;
@@ -40,13 +40,13 @@ fn take_room(shape: Shape, kind: Kind, n: usize, image: &[u8], registers: &mut [
     }
 }
 
-// The register room: SR holds its first 512 words, VR the rest.
+// The register file: SR holds its first 512 words, VR the rest.
 fn take_registers(shape: Shape, image: &[u8], registers: &mut [u32])
-    requires { ⌜ (startOf shape kinds ≤ length (now image)) × (length (now registers) ≡ roomWords) ⌝ }
+    requires { ⌜ (startOf shape kinds ≤ length (now image)) × (length (now registers) ≡ registerWords) ⌝ }
     ensures { λ _. ⌜ now (registers .exit) ≡ registersIn shape (now (image .entry)) ⌝ }
 {
-    take_room(shape, Kind::Sr, 64, image, registers, 0);
-    take_room(shape, Kind::Vr, 16, image, registers, 512);
+    take_bodies(shape, Kind::Sr, 64, image, registers, 0);
+    take_bodies(shape, Kind::Vr, 16, image, registers, 512);
 }
 
 // The memory.

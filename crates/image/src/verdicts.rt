@@ -3,7 +3,7 @@ ghost use Prim.Native.Nat.{_≤_};
 ghost use mathlib.Core.Option.{some};
 ghost use mathlib.Core.Path.{_≡_};
 ghost use lib.ListN.{length};
-ghost use Rattle.answer.specs.Refusal.{numbered, refusedOr};
+ghost use Rattle.answer.specs.Refusal.{numberOf, refusedOr};
 ghost use Rattle.machine.specs.Machine.{zeroed};
 ghost use Rattle.image_layout.specs.Layout.{kinds, startOf};
 ghost use Rattle.image.specs.Image.{machineIn};
@@ -24,7 +24,7 @@ pub struct Judgement {
 
 // An image refused with a number.
 fn refuse(number: u8) -> Judgement
-    ensures { λ r. ⌜ (numbered (r .verdict) ≡ some number) × (r .machine ≡ zeroed) ⌝ }
+    ensures { λ r. ⌜ (numberOf (r .verdict) ≡ some number) × (r .machine ≡ zeroed) ⌝ }
 {
     Judgement {
         verdict: Verdict::Refused(number),
@@ -34,7 +34,7 @@ fn refuse(number: u8) -> Judgement
 
 // The verdict by whether marks and place numbers stand, and by the record found.
 pub fn judge_content(stands: bool, found: Record) -> Judgement
-    ensures { λ r. ⌜ (numbered (r .verdict) ≡ contentNumber stands (found .accepted)) × (r .machine ≡ refusedOr (contentNumber stands (found .accepted)) (λ n. zeroed) (found .machine)) ⌝ }
+    ensures { λ r. ⌜ (numberOf (r .verdict) ≡ contentNumber stands (found .accepted)) × (r .machine ≡ refusedOr (contentNumber stands (found .accepted)) (λ n. zeroed) (found .machine)) ⌝ }
 {
     let machine = found.machine;
     let accepted = found.accepted;
@@ -53,7 +53,7 @@ pub fn judge_content(stands: bool, found: Record) -> Judgement
 // The verdict on what an image of the right length holds.
 pub fn judge_records(shape: Shape, image: &[u8]) -> Judgement
     requires { ⌜ startOf shape kinds ≤ length (now image) ⌝ }
-    ensures { λ r. ⌜ (numbered (r .verdict) ≡ recordsNumber shape (now (image .entry))) × (r .machine ≡ refusedOr (recordsNumber shape (now (image .entry))) (λ n. zeroed) (machineIn shape (now (image .entry)))) ⌝ }
+    ensures { λ r. ⌜ (numberOf (r .verdict) ≡ recordsNumber shape (now (image .entry))) × (r .machine ≡ refusedOr (recordsNumber shape (now (image .entry))) (λ n. zeroed) (machineIn shape (now (image .entry)))) ⌝ }
 {
     judge_content(kinds_stand(shape, KINDS, image), record_in(shape, image))
 }

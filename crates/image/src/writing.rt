@@ -9,7 +9,7 @@ ghost use Rattle.image.specs.Calls.{written, write};
 ghost use Rattle.image.specs.Image.{Lengths, Suits, fieldBytes, bodyOf};
 use crate::bytes::copy_eights;
 use crate::bytes::put_words;
-use crate::fields::Fields;
+use crate::fields::ThreadFields;
 use crate::fields::fields_of;
 use crate::heads::put_head;
 use crate::outcome::WriteAnswer;
@@ -24,7 +24,7 @@ use image_layout::row_of;
 use machine::Machine;
 
 // An entry's numbers stored from a place on.
-fn put_fields(fields: Fields, buffer: &mut [u8], at: usize)
+fn put_fields(fields: ThreadFields, buffer: &mut [u8], at: usize)
     requires { ⌜ at + 4 ≤ length (now buffer) ⌝ }
     ensures { λ _. ⌜ Grown (now (buffer .entry)) (now (buffer .exit)) at (at + 4) (fieldBytes fields) ⌝ }
 {

@@ -8,7 +8,7 @@ use native.Mathlib.Numerals.{add-one}
 use native.Mathlib.Nat.{mul-suc, mul-le-mul-left}
 use lib.ListN.{length, getD, take, drop, set, length-append, length-set, length-drop}
 use lib.Seq.{take-suc-set, take-all, take-suc, getD-drop, take-add, drop-drop}
-use Rattle.image_layout.specs.Join.{joined, total, Grown}
+use Rattle.image_layout.specs.Join.{concatBelow, total, Grown}
 use Rattle.image_layout.proofs.Tests.{at-or-below}
 
 -- Growing.
@@ -30,15 +30,15 @@ pub grown-same : {A : Type 0} {l r : List A} {at p : ℕ} {x : List A} (q : ℕ)
 grown-same q e g = rw e at g
 
 -- one more piece of those laid end to end
-pub grown-join : {A : Type 0} {l r s : List A} {at p q : ℕ} (j : ℕ) (f : ℕ → List A) → Grown l r at p (joined j f) → Grown r s p q (f j) → Grown l s at q (joined (j + 1) f)
-unfolding joined
+pub grown-join : {A : Type 0} {l r s : List A} {at p q : ℕ} (j : ℕ) (f : ℕ → List A) → Grown l r at p (concatBelow j f) → Grown r s p q (f j) → Grown l s at q (concatBelow (j + 1) f)
+unfolding concatBelow
 grown-join j f g h = rw add-one (grown-more g h)
 
-pub grown-start : {A : Type 0} (l : List A) (at : ℕ) (f : ℕ → List A) → Grown l l at at (joined 0 f)
-unfolding joined
+pub grown-start : {A : Type 0} (l : List A) (at : ℕ) (f : ℕ → List A) → Grown l l at at (concatBelow 0 f)
+unfolding concatBelow
 grown-start l at f = grown-none l at
 
-pub grown-end : {A : Type 0} {l r : List A} {at p : ℕ} (j n : ℕ) (f : ℕ → List A) → Grown l r at p (joined j f) → j ≤ n → n ≤ j → Grown l r at p (joined n f)
+pub grown-end : {A : Type 0} {l r : List A} {at p : ℕ} (j n : ℕ) (f : ℕ → List A) → Grown l r at p (concatBelow j f) → j ≤ n → n ≤ j → Grown l r at p (concatBelow n f)
 grown-end j n f g a b = let e : j ≡ n = omega arith in rw e at g
 
 -- all of it
@@ -47,13 +47,13 @@ grown-whole {l = l} {r} {p} {x} g h = sym (take-all p r (let e : length r ≤ p 
 
 -- Lengths.
 
-pub length-joined : {A : Type 0} (n : ℕ) (f : ℕ → List A) (g : ℕ → ℕ) → ((i : ℕ) → i < n → length (f i) ≡ g i) → length (joined n f) ≡ total n g
-unfolding joined total
-length-joined zero f g h = refl
-length-joined (suc n) f g h =
-    let a = length-joined n f g (λ i l. h i (omega arith)) in
+pub length-concatBelow : {A : Type 0} (n : ℕ) (f : ℕ → List A) (g : ℕ → ℕ) → ((i : ℕ) → i < n → length (f i) ≡ g i) → length (concatBelow n f) ≡ total n g
+unfolding concatBelow total
+length-concatBelow zero f g h = refl
+length-concatBelow (suc n) f g h =
+    let a = length-concatBelow n f g (λ i l. h i (omega arith)) in
     let b = h n (omega arith) in
-    omega (arith, length-append (joined n f) (f n))
+    omega (arith, length-append (concatBelow n f) (f n))
 
 pub total-same : (n s : ℕ) → total n (λ _. s) ≡ s * n
 unfolding total
@@ -61,8 +61,8 @@ total-same zero s = omega arith
 total-same (suc n) s = omega (arith, total-same n s, mul-suc s n)
 
 -- pieces of one size
-pub length-even : {A : Type 0} (n s : ℕ) (f : ℕ → List A) → ((i : ℕ) → i < n → length (f i) ≡ s) → length (joined n f) ≡ s * n
-length-even n s f h = length-joined n f (λ _. s) h ∙ total-same n s
+pub length-even : {A : Type 0} (n s : ℕ) (f : ℕ → List A) → ((i : ℕ) → i < n → length (f i) ≡ s) → length (concatBelow n f) ≡ s * n
+length-even n s f h = length-concatBelow n f (λ _. s) h ∙ total-same n s
 
 -- the i-th of n pieces of one size ends within them
 pub fits-in : (s i n : ℕ) → i < n → s * i + s ≤ s * n
@@ -74,7 +74,7 @@ total-le q zero g h = let e : q ≡ 0 = omega arith in rw e (omega arith)
 total-le q (suc n) g h = ⊎-elim (λ e. rw e (omega arith)) (λ l. omega (arith, total-le q n g (let m : q ≤ n = omega arith in m))) (at-or-below q (suc n) (let l : q < suc (suc n) = omega arith in l))
 
 -- room for one more piece of one size
-pub room-for : {A : Type 0} {l r : List A} {at p : ℕ} (s j n : ℕ) (f : ℕ → List A) → Grown l r at p (joined j f) → ((i : ℕ) → i < n → length (f i) ≡ s) → j < n → at + s * n ≤ length l → p + s ≤ length r
+pub room-for : {A : Type 0} {l r : List A} {at p : ℕ} (s j n : ℕ) (f : ℕ → List A) → Grown l r at p (concatBelow j f) → ((i : ℕ) → i < n → length (f i) ≡ s) → j < n → at + s * n ≤ length l → p + s ≤ length r
 room-for s j n f g h t b = omega (arith, g .size, g .next, length-even j s f (λ i k. h i (omega arith)), fits-in s j n t)
 
 -- the same of other words for what is stored

@@ -7,10 +7,10 @@ use native.Mathlib.Numerals.{add-one}
 use native.Mathlib.Omega.{arith}
 use lib.ListN.{length, length-append}
 use Rattle.answer.specs.Refusal.{fixedPart, blockRecord}
-use Rattle.image_layout.specs.Join.{total, joined}
+use Rattle.image_layout.specs.Join.{total, concatBelow}
 use Rattle.image_layout.specs.Layout.{kinds, rowOf, kindAt, positionIn, orderOf, placesOf, placesLength, headLength, headOf, recordSize, extentOf, recordOf, sectionOf, laidOut, startOf, recordAt}
-use Rattle.image_layout.specs.Types.{Kind, Hd, Th, Sr, Vr, Mm, Places, Nothing, ByThread, ByRegister, ByBlock, Shape, Row}
-use Rattle.image_layout.proofs.Join.{length-even, length-joined, total-le, fits-in}
+use Rattle.image_layout.specs.Types.{Kind, Hd, Th, Sr, Vr, Mm, Places, Nothing, ByThread, ByRegister, ByBlock, Shape, RecordRow}
+use Rattle.image_layout.proofs.Join.{length-even, length-concatBelow, total-le, fits-in}
 
 places-length : (p : Places) (i : ℕ) → length (placesOf p i) ≡ placesLength p
 places-length Nothing i = refl
@@ -24,7 +24,7 @@ places-few ByThread = omega arith
 places-few ByRegister = omega arith
 places-few ByBlock = omega arith
 
-pub head-length : (r : Row) (i : ℕ) → length (headOf r i) ≡ headLength (r .places)
+pub head-length : (r : RecordRow) (i : ℕ) → length (headOf r i) ≡ headLength (r .places)
 head-length r i = omega (arith, places-length (r .places) i)
 
 pub size-few : (s : Shape) (k : Kind) → rowOf s k .size ≤ 256
@@ -78,7 +78,7 @@ th-order = refl
 
 -- Lengths, over any row.
 
-module _ (r : Row) (body : ℕ → List ℕ) (even : (i : ℕ) → i < r .count → length (body i) ≡ r .size) where
+module _ (r : RecordRow) (body : ℕ → List ℕ) (even : (i : ℕ) → i < r .count → length (body i) ≡ r .size) where
   pub record-length : (i : ℕ) → i < r .count → length (recordOf r body i) ≡ recordSize r
   unfolding recordOf
   record-length i h = omega (arith, length-append (headOf r i) (body i), head-length r i, even i h)
@@ -88,11 +88,11 @@ module _ (r : Row) (body : ℕ → List ℕ) (even : (i : ℕ) → i < r .count 
   section-length = length-even (r .count) (recordSize r) (recordOf r body) record-length
 
 -- a record, its head and its body end within the records of its kind
-pub record-room : (r : Row) (at i len : ℕ) → i < r .count → at + extentOf r ≤ len → recordAt r at i + recordSize r ≤ len
+pub record-room : (r : RecordRow) (at i len : ℕ) → i < r .count → at + extentOf r ≤ len → recordAt r at i + recordSize r ≤ len
 record-room r at i len h e = omega (arith, fits-in (recordSize r) i (r .count) h)
 
 -- the next record begins where one ends
-pub record-next : (r : Row) (at i : ℕ) → recordAt r at i + recordSize r ≡ recordAt r at (i + 1)
+pub record-next : (r : RecordRow) (at i : ℕ) → recordAt r at i + recordSize r ≡ recordAt r at (i + 1)
 record-next r at i = omega (arith, mul-suc (recordSize r) i, ap (λ n. recordSize r * n) (add-one i))
 
 -- the whole length, as the paper says it
@@ -128,10 +128,10 @@ abbrev pub sectionAt : Shape → (Kind → ℕ → List ℕ) → ℕ → List �
 sectionAt s body q = sectionOf (rowOf s (kindAt q)) (body (kindAt q))
 
 module _ (s : Shape) (body : Kind → ℕ → List ℕ) (even : (k : Kind) (i : ℕ) → i < rowOf s k .count → length (body k i) ≡ rowOf s k .size) where
-  pub sections-length : (q : ℕ) → length (joined q (sectionAt s body)) ≡ startOf s q
+  pub sections-length : (q : ℕ) → length (concatBelow q (sectionAt s body)) ≡ startOf s q
   unfolding startOf
   sections-length q =
-      length-joined q (sectionAt s body) (λ p. extentOf (rowOf s (kindAt p))) (λ p _. section-length (rowOf s (kindAt p)) (body (kindAt p)) (even (kindAt p)))
+      length-concatBelow q (sectionAt s body) (λ p. extentOf (rowOf s (kindAt p))) (λ p _. section-length (rowOf s (kindAt p)) (body (kindAt p)) (even (kindAt p)))
 
   pub laid-length : length (laidOut s body) ≡ startOf s kinds
   unfolding laidOut

@@ -7,7 +7,7 @@ use native.Mathlib.Omega.{arith}
 use borrow.Author.Tests.{le-leb, lt-leb}
 use lib.Dec.{eqb}
 use lib.ListN.{length, getD}
-use Rattle.image_layout.specs.Types.{Row}
+use Rattle.image_layout.specs.Types.{RecordRow}
 use Rattle.image_layout.specs.Layout.{headLength, headOf, standsAt, headStands}
 
 with-true : (a : Bool) → (a && true) ≡ a
@@ -37,7 +37,7 @@ stands-more l at x y h =
     ∙ ap (λ p. eqb (getD l at 0) x && eqb (getD l (at + 1) 0) y && standsAt h l p) (let z : at + 1 + 1 ≡ at + 2 = omega arith in z)
 
 -- a record's head where the bytes end before it does, and where they do not
-module _ (r : Row) (i : ℕ) (l : List ℕ) (at : ℕ) where
+module _ (r : RecordRow) (i : ℕ) (l : List ℕ) (at : ℕ) where
   pub head-short : length l < at + headLength (r .places) → false ≡ headStands r i l at
   unfolding headStands
   head-short h = rw (lt-leb (at + headLength (r .places)) (length l) h)

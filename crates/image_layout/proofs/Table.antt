@@ -9,11 +9,11 @@ use borrow.Author.Tests.{eq-eqb, eqb-true}
 use lib.Dec.{eqb}
 use lib.ListN.{length, getD, take, drop}
 use lib.Seq.{take-all, take-add, take-at, drop-drop, drop-at, getD-drop, getD-take}
-use Rattle.image_layout.specs.Join.{joined}
+use Rattle.image_layout.specs.Join.{concatBelow}
 use Rattle.image_layout.specs.Layout.{kinds, rowOf, kindAt, positionIn, orderOf, headLength, headOf, recordSize, extentOf, recordOf, sectionOf, laidUpTo, laidOut, startOf, recordAt, bodyAt, bodyIn, standsAt, headsOf, headsUpTo, headsIn}
-use Rattle.image_layout.specs.Types.{Kind, Shape, Row}
+use Rattle.image_layout.specs.Types.{Kind, Shape, RecordRow}
 use Rattle.image_layout.proofs.Join.{fits-in}
-use Rattle.image_layout.proofs.Parts.{cut-take, joined-same, piece, pieces, piece-even, pieces-even}
+use Rattle.image_layout.proofs.Parts.{cut-take, concatBelow-same, piece, pieces, piece-even, pieces-even}
 use Rattle.image_layout.proofs.Rows.{head-length, record-length, record-room, section-length, sectionAt, start-room, kind-order, order-few}
 use Rattle.image_layout.proofs.Tests.{two, all-intro, all-elim}
 
@@ -46,7 +46,7 @@ stands-means (x ∷ h) l p room e =
 
 -- What was laid out is read.
 
-module _ (r : Row) (body : ℕ → List ℕ) (even : (i : ℕ) → i < r .count → length (body i) ≡ r .size) (at : ℕ) (l : List ℕ) (here : take (extentOf r) (drop at l) ≡ sectionOf r body) where
+module _ (r : RecordRow) (body : ℕ → List ℕ) (even : (i : ℕ) → i < r .count → length (body i) ≡ r .size) (at : ℕ) (l : List ℕ) (here : take (extentOf r) (drop at l) ≡ sectionOf r body) where
   -- a part of record i
   in-record : (i x a : ℕ) → i < r .count → x + a ≤ recordSize r → take a (drop (recordAt r at i + x) l) ≡ take a (drop x (recordOf r body i))
   unfolding sectionOf
@@ -79,7 +79,7 @@ module _ (r : Row) (body : ℕ → List ℕ) (even : (i : ℕ) → i < r .count 
 
 -- What is read lays out to the same bytes.
 
-module _ (r : Row) (at : ℕ) (l : List ℕ) (ok : headsOf r l at ≡ true) (room : at + extentOf r ≤ length l) where
+module _ (r : RecordRow) (at : ℕ) (l : List ℕ) (ok : headsOf r l at ≡ true) (room : at + extentOf r ≤ length l) where
   record-back : (i : ℕ) → i < r .count → recordOf r (bodyAt r at l) i ≡ take (recordSize r) (drop (recordAt r at i) l)
   unfolding recordOf bodyAt headsOf
   record-back i h =
@@ -95,13 +95,13 @@ module _ (r : Row) (at : ℕ) (l : List ℕ) (ok : headsOf r l at ≡ true) (roo
   pub section-back : sectionOf r (bodyAt r at l) ≡ take (extentOf r) (drop at l)
   unfolding sectionOf
   section-back =
-      joined-same (r .count) (recordOf r (bodyAt r at l)) (λ i. take (recordSize r) (drop (at + recordSize r * i) l)) record-back
+      concatBelow-same (r .count) (recordOf r (bodyAt r at l)) (λ i. take (recordSize r) (drop (at + recordSize r * i) l)) record-back
       ∙ pieces-even (r .count) (recordSize r) at l
 
-section-same : (r : Row) (f g : ℕ → List ℕ) → ((i : ℕ) → i < r .count → f i ≡ g i) → sectionOf r f ≡ sectionOf r g
+section-same : (r : RecordRow) (f g : ℕ → List ℕ) → ((i : ℕ) → i < r .count → f i ≡ g i) → sectionOf r f ≡ sectionOf r g
 unfolding sectionOf recordOf
 section-same r f g h =
-    joined-same (r .count) (λ i. headOf r i ++ f i) (λ i. headOf r i ++ g i) (λ i k. ap (λ z. headOf r i ++ z) (h i k))
+    concatBelow-same (r .count) (λ i. headOf r i ++ f i) (λ i. headOf r i ++ g i) (λ i k. ap (λ z. headOf r i ++ z) (h i k))
 
 -- The first n kinds.
 
@@ -131,7 +131,7 @@ module _ (s : Shape) (body : Kind → ℕ → List ℕ) (even : (k : Kind) (i : 
   unfolding headsIn laidOut
   laid-heads = heads-up-to kinds s body (λ q _. even (kindAt q))
 
-kinds-back : (s : Shape) (l : List ℕ) → joined kinds (λ q. take (extentOf (rowOf s (kindAt q))) (drop (startOf s q) l)) ≡ take (startOf s kinds) l
+kinds-back : (s : Shape) (l : List ℕ) → concatBelow kinds (λ q. take (extentOf (rowOf s (kindAt q))) (drop (startOf s q) l)) ≡ take (startOf s kinds) l
 unfolding startOf
 kinds-back s l = pieces kinds (λ p. extentOf (rowOf s (kindAt p))) l
 
@@ -150,7 +150,7 @@ pub laid-back : (s : Shape) (l : List ℕ) (body : Kind → ℕ → List ℕ) �
     → laidOut s body ≡ l
 unfolding laidOut headsIn
 laid-back s l body len ok same =
-    joined-same kinds (sectionAt s body) (λ q. take (extentOf (rowOf s (kindAt q))) (drop (startOf s q) l))
+    concatBelow-same kinds (sectionAt s body) (λ q. take (extentOf (rowOf s (kindAt q))) (drop (startOf s q) l))
     (λ q h. section-same (rowOf s (kindAt q)) (body (kindAt q)) (bodyAt (rowOf s (kindAt q)) (startOf s q) l)
     (λ i k. same (kindAt q) i k ∙ ap (λ z. bodyAt (rowOf s (kindAt q)) (startOf s z) l i) (at-order q h))
     ∙ section-back (rowOf s (kindAt q)) (startOf s q) l (all-elim kinds (λ q. headsOf (rowOf s (kindAt q)) l (startOf s q)) ok q h) (omega (arith, start-room s q kinds h)))

@@ -6,9 +6,9 @@ use mathlib.Core.Path.{_≡_}
 use lib.ListN.{length, take}
 
 -- f 0, f 1, .., f (n - 1), end to end
-unfoldable pub joined : {A : Type 0} → ℕ → (ℕ → List A) → List A
-joined zero f = []
-joined (suc n) f = joined n f ++ f n
+unfoldable pub concatBelow : {A : Type 0} → ℕ → (ℕ → List A) → List A
+concatBelow zero f = []
+concatBelow (suc n) f = concatBelow n f ++ f n
 
 -- g 0 + g 1 + .. + g (n - 1)
 unfoldable pub total : ℕ → (ℕ → ℕ) → ℕ

@@ -4,21 +4,21 @@ use mathlib.Core.Bool.{Bool, true, _&&_, cond}
 use mathlib.Core.List.{List, [], _∷_, _++_}
 use lib.Dec.{leb, eqb}
 use lib.ListN.{length, getD, take, drop}
-use Rattle.image_layout.specs.Join.{joined, total, allBelow}
-use Rattle.image_layout.specs.Types.{Kind, Hd, Th, Sr, Vr, Mm, Places, Nothing, ByThread, ByRegister, ByBlock, Shape, Row}
+use Rattle.image_layout.specs.Join.{concatBelow, total, allBelow}
+use Rattle.image_layout.specs.Types.{Kind, Hd, Th, Sr, Vr, Mm, Places, Nothing, ByThread, ByRegister, ByBlock, Shape, RecordRow}
 
 -- The table.
 
 abbrev pub ofBlocks : ℕ → Shape
 ofBlocks blocks = record { blocks = blocks }
 
-abbrev row : ℕ → ℕ → Places → ℕ → ℕ → Row
+abbrev row : ℕ → ℕ → Places → ℕ → ℕ → RecordRow
 row first second places count size = record { first = first; second = second; places = places; count = count; size = size }
 
 -- "Each record opens with a two-byte mark, in this order: HD, last, enabled; eight TH: thread, status, reason, id, count ..; eight SR:
 -- thread, 64 words; 512 VR: thread, register, 16 words; MM for each 64-byte block: block number in two bytes, 64 bytes."
 -- Of each kind: its mark in ASCII, its place numbers, how many records there are, and the bytes behind the place numbers of one.
-abbrev pub rowOf : Shape → Kind → Row
+abbrev pub rowOf : Shape → Kind → RecordRow
 rowOf s Hd = row 72 68 Nothing 1 2
 rowOf s Th = row 84 72 ByThread 8 4
 rowOf s Sr = row 83 82 ByThread 8 256
@@ -40,7 +40,7 @@ abbrev pub recordKinds : ℕ
 recordKinds = 2
 
 -- kinds are told apart by their marks, whatever the shape
-abbrev pub sameMark : Row → Row → Bool
+abbrev pub sameMark : RecordRow → RecordRow → Bool
 sameMark r q = eqb (r .first) (q .first) && eqb (r .second) (q .second)
 
 -- the position of a kind: that of the first with its mark
@@ -76,27 +76,27 @@ abbrev pub headLength : Places → ℕ
 headLength p = 2 + placesLength p
 
 -- what record i opens with
-abbrev pub headOf : Row → ℕ → List ℕ
+abbrev pub headOf : RecordRow → ℕ → List ℕ
 headOf r i = r .first ∷ r .second ∷ placesOf (r .places) i
 
 -- the bytes of a record, and of all records of a kind
-abbrev pub recordSize : Row → ℕ
+abbrev pub recordSize : RecordRow → ℕ
 recordSize r = headLength (r .places) + r .size
 
-abbrev pub extentOf : Row → ℕ
+abbrev pub extentOf : RecordRow → ℕ
 extentOf r = recordSize r * r .count
 
 -- Writing: body i stands behind the place numbers of record i.
 
-unfoldable pub recordOf : Row → (ℕ → List ℕ) → ℕ → List ℕ
+unfoldable pub recordOf : RecordRow → (ℕ → List ℕ) → ℕ → List ℕ
 recordOf r body i = headOf r i ++ body i
 
-unfoldable pub sectionOf : Row → (ℕ → List ℕ) → List ℕ
-sectionOf r body = joined (r .count) (recordOf r body)
+unfoldable pub sectionOf : RecordRow → (ℕ → List ℕ) → List ℕ
+sectionOf r body = concatBelow (r .count) (recordOf r body)
 
 -- the first n kinds, and the whole image
 abbrev pub laidUpTo : ℕ → Shape → (Kind → ℕ → List ℕ) → List ℕ
-laidUpTo n s body = joined n (λ q. sectionOf (rowOf s (kindAt q)) (body (kindAt q)))
+laidUpTo n s body = concatBelow n (λ q. sectionOf (rowOf s (kindAt q)) (body (kindAt q)))
 
 unfoldable pub laidOut : Shape → (Kind → ℕ → List ℕ) → List ℕ
 laidOut s body = laidUpTo kinds s body
@@ -106,15 +106,15 @@ laidOut s body = laidUpTo kinds s body
 unfoldable pub startOf : Shape → ℕ → ℕ
 startOf s q = total q (λ p. extentOf (rowOf s (kindAt p)))
 
-abbrev pub recordAt : Row → ℕ → ℕ → ℕ
+abbrev pub recordAt : RecordRow → ℕ → ℕ → ℕ
 recordAt r at i = at + recordSize r * i
 
-abbrev pub bodyPlace : Row → ℕ → ℕ → ℕ
+abbrev pub bodyPlace : RecordRow → ℕ → ℕ → ℕ
 bodyPlace r at i = recordAt r at i + headLength (r .places)
 
 -- Reading: the body of record i of a kind.
 
-unfoldable pub bodyAt : Row → ℕ → List ℕ → ℕ → List ℕ
+unfoldable pub bodyAt : RecordRow → ℕ → List ℕ → ℕ → List ℕ
 bodyAt r at l i = take (r .size) (drop (bodyPlace r at i) l)
 
 abbrev pub bodyIn : Shape → List ℕ → Kind → ℕ → List ℕ
@@ -126,11 +126,11 @@ standsAt [] l p = true
 standsAt (x ∷ h) l p = eqb (getD l p 0) x && standsAt h l (p + 1)
 
 -- whether record i stands there: not where the bytes end before its mark and place numbers do
-unfoldable pub headStands : Row → ℕ → List ℕ → ℕ → Bool
+unfoldable pub headStands : RecordRow → ℕ → List ℕ → ℕ → Bool
 headStands r i l at = leb (at + headLength (r .places)) (length l) && standsAt (headOf r i) l at
 
 -- at every record of a kind,
-unfoldable pub headsOf : Row → List ℕ → ℕ → Bool
+unfoldable pub headsOf : RecordRow → List ℕ → ℕ → Bool
 headsOf r l at = allBelow (r .count) (λ i. standsAt (headOf r i) l (recordAt r at i))
 
 -- of the first n kinds,

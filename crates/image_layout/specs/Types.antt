@@ -4,4 +4,4 @@ pub use Rattle.image_layout.specs.declared.layout.Kind.the-variants.{Hd,
 pub use Rattle.image_layout.specs.declared.layout.Places.{Places}
 pub use Rattle.image_layout.specs.declared.layout.Places.the-variants.{Nothing, ByThread, ByRegister, ByBlock}
 pub use Rattle.image_layout.specs.declared.layout.Shape.{Shape}
-pub use Rattle.image_layout.specs.declared.layout.Row.{Row}
+pub use Rattle.image_layout.specs.declared.layout.RecordRow.{RecordRow}

@@ -4,7 +4,7 @@ ghost use mathlib.Core.Path.{_≡_};
 ghost use lib.ListN.{length};
 ghost use Rattle.image_layout.specs.Layout.{placesOf, placesLength, headLength, headOf, standsAt, headStands};
 use crate::layout::Places;
-use crate::layout::Row;
+use crate::layout::RecordRow;
 use crate::layout::head_length;
 
 // Whether the place numbers of record i stand at a place.
@@ -21,7 +21,7 @@ fn places_stand(places: Places, i: usize, image: &[u8], at: usize) -> bool
 }
 
 // Whether record i opens with its mark and place numbers, where there is room for them.
-fn opens_with(row: Row, i: usize, image: &[u8], at: usize) -> bool
+fn opens_with(row: RecordRow, i: usize, image: &[u8], at: usize) -> bool
     requires { ⌜ at + headLength (row .places) ≤ length (now image) ⌝ }
     ensures { λ r. ⌜ r ≡ standsAt (headOf row i) (now (image .entry)) at ⌝ }
 {
@@ -31,7 +31,7 @@ fn opens_with(row: Row, i: usize, image: &[u8], at: usize) -> bool
 }
 
 // Whether record i stands at a place: not where the bytes end before its mark and place numbers do.
-pub fn head_stands(row: Row, i: usize, image: &[u8], at: usize) -> bool
+pub fn head_stands(row: RecordRow, i: usize, image: &[u8], at: usize) -> bool
     ensures { λ r. ⌜ r ≡ headStands row i (now (image .entry)) at ⌝ }
 {
     let places = row.places;

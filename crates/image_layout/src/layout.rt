@@ -25,7 +25,7 @@ pub struct Shape {
 }
 
 // A kind's mark, its place numbers, how many records there are, and the bytes behind the place numbers of one.
-pub struct Row {
+pub struct RecordRow {
     pub first: u8,
     pub second: u8,
     pub places: Places,
@@ -66,7 +66,7 @@ fn order_of(kind: Kind) -> usize
 }
 
 // The table.
-pub fn row_of(shape: Shape, kind: Kind) -> Row
+pub fn row_of(shape: Shape, kind: Kind) -> RecordRow
     ensures { λ r. ⌜ r ≡ rowOf shape kind ⌝ }
 {
     let blocks = shape.blocks as usize;
@@ -80,10 +80,10 @@ pub fn row_of(shape: Shape, kind: Kind) -> Row
 }
 
 // A row by its columns.
-fn row_with(first: u8, second: u8, places: Places, count: usize, size: u16) -> Row
+fn row_with(first: u8, second: u8, places: Places, count: usize, size: u16) -> RecordRow
     ensures { λ r. ⌜ r ≡ record { first = first; second = second; places = places; count = count; size = size } ⌝ }
 {
-    Row {
+    RecordRow {
         first,
         second,
         places,
@@ -105,7 +105,7 @@ pub fn head_length(places: Places) -> usize
 }
 
 // The bytes of a record.
-pub fn record_size(row: Row) -> usize
+pub fn record_size(row: RecordRow) -> usize
     ensures { λ r. ⌜ r ≡ recordSize row ⌝ }
 {
     let places = row.places;

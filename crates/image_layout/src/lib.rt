@@ -7,7 +7,7 @@ pub use layout::KINDS;
 pub use layout::Kind;
 pub use layout::Places;
 pub use layout::RECORD_KINDS;
-pub use layout::Row;
+pub use layout::RecordRow;
 pub use layout::Shape;
 pub use layout::extent_of;
 pub use layout::first_body;

@@ -25,7 +25,7 @@ use Rattle.answer.specs.Refusal.{refusedOr}
 use Rattle.interpreter.specs.Run.{Outcome, number, runIssues, runReached, run}
 use Rattle.interpreter.specs.Types.{Machine, Choice, Chosen, NoneRunning}
 use Rattle.interpreter.proofs.Issuing.{chosen-thread, issued-sound, issued-well-formed, reached-nothing, reached-one-more}
-use Rattle.interpreter.proofs.RoundRobin.{distance, distance-range, distance-at, distance-of, some-counted, all-counted, IssueInTurn, Row, row-after, row-front, within, share, even}
+use Rattle.interpreter.proofs.RoundRobin.{distance, distance-range, distance-at, distance-of, some-counted, all-counted, IssueInTurn, InTurns, row-after, row-front, within, share, even}
 
 -- the thread chosen is at most as far from "last" as any that is running
 chosen-first : (m : Machine) (t d : ℕ) → m .last < 8 → choice m ≡ Chosen t d → (u : ℕ) → u < 8 → runs m u ≡ true
@@ -67,26 +67,26 @@ module _ (mask : ℕ) (p : List ℕ) (s : State) (f : Fit mask (s .machine)) (t 
 module _ (mask : ℕ) where
   -- the issues of one run, and a row of others behind them
   run-row : (p : List ℕ) (b : ℕ) (s : State) (rest : List Issue) → Fit mask (s .machine)
-      → (Fit mask (reached p b s .machine) → Row (isEnabled mask) (reached p b s .machine) rest)
-      → Row (isEnabled mask) (s .machine) (issues p b s ++ rest)
+      → (Fit mask (reached p b s .machine) → InTurns (isEnabled mask) (reached p b s .machine) rest)
+      → InTurns (isEnabled mask) (s .machine) (issues p b s ++ rest)
   unfolding issues
-  run-row p zero s rest f k = subst (λ x. Row (isEnabled mask) (x .machine) rest) (reached-nothing p s) (k (rw (reached-nothing p s) f))
+  run-row p zero s rest f k = subst (λ x. InTurns (isEnabled mask) (x .machine) rest) (reached-nothing p s) (k (rw (reached-nothing p s) f))
   run-row p (suc b) s rest f k =
       go (choice (s .machine)) refl (λ t. run-row p b (issued p s t) rest)
-      (subst (λ x. Fit mask (x .machine) → Row (isEnabled mask) (x .machine) rest) (reached-one-more p s b) k)
+      (subst (λ x. Fit mask (x .machine) → InTurns (isEnabled mask) (x .machine) rest) (reached-one-more p s b) k)
     where
       go : (c : Choice) → choice (s .machine) ≡ c
           → ((t : ℕ) → Fit mask (issued p s t .machine)
-          → (Fit mask (reached p b (issued p s t) .machine) → Row (isEnabled mask) (reached p b (issued p s t) .machine) rest)
-          → Row (isEnabled mask) (issued p s t .machine) (issues p b (issued p s t) ++ rest))
+          → (Fit mask (reached p b (issued p s t) .machine) → InTurns (isEnabled mask) (reached p b (issued p s t) .machine) rest)
+          → InTurns (isEnabled mask) (issued p s t .machine) (issues p b (issued p s t) ++ rest))
           → (Fit mask (ifChosen c (λ t. reached p b (issued p s t)) s .machine)
-          → Row (isEnabled mask) (ifChosen c (λ t. reached p b (issued p s t)) s .machine) rest)
-          → Row (isEnabled mask) (s .machine) (ifChosen c (λ t. record { before = s; thread = t } ∷ issues p b (issued p s t)) [] ++ rest)
+          → InTurns (isEnabled mask) (ifChosen c (λ t. reached p b (issued p s t)) s .machine) rest)
+          → InTurns (isEnabled mask) (s .machine) (ifChosen c (λ t. record { before = s; thread = t } ∷ issues p b (issued p s t)) [] ++ rest)
       go (Chosen t d) h more k = (issued p s t .machine, turn mask p s f t d h, more t (fit-issued mask p s f t d h) k)
       go NoneRunning h more k = k f
 
   -- the issues of runs of which each has the record of the one before it
-  runs-row : (rs : List Begun) (m : Machine) → Fit mask m → RecordHandedOn rs m → Row (isEnabled mask) m (issuesOf rs)
+  runs-row : (rs : List Begun) (m : Machine) → Fit mask m → RecordHandedOn rs m → InTurns (isEnabled mask) m (issuesOf rs)
   unfolding issuesOf runIssues runReached
   runs-row [] m f k = tt
   runs-row (r ∷ rs) m f k =
@@ -104,14 +104,14 @@ module _ (mask : ℕ) where
       g : Fit mask (s .machine)
       g = rw (k .0) f
 
-      go : (o : Option ℕ) → ((m′ : Machine) → Fit mask m′ → RecordHandedOn rs m′ → Row (isEnabled mask) m′ (issuesOf rs))
+      go : (o : Option ℕ) → ((m′ : Machine) → Fit mask m′ → RecordHandedOn rs m′ → InTurns (isEnabled mask) m′ (issuesOf rs))
           → RecordHandedOn rs (refusedOr o (λ n. s) (reached p b s) .machine)
-          → Row (isEnabled mask) (s .machine) (refusedOr o (λ n. []) (issues p b s) ++ issuesOf rs)
+          → InTurns (isEnabled mask) (s .machine) (refusedOr o (λ n. []) (issues p b s) ++ issuesOf rs)
       go none rest h = run-row p b s (issuesOf rs) g (λ x. rest (reached p b s .machine) x h)
       go (some n) rest h = rest (s .machine) g h
 
 -- the turns in a row are fair
-row-fair : (mask : ℕ) (m : Machine) (all : List Issue) → Row (isEnabled mask) m all → Fair all (countThreads (isEnabled mask))
+row-fair : (mask : ℕ) (m : Machine) (all : List Issue) → InTurns (isEnabled mask) m all → Fair all (countThreads (isEnabled mask))
 row-fair mask m all row =
     let on = isEnabled mask in
     record {

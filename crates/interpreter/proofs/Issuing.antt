@@ -10,12 +10,12 @@ use Rattle.execution.proofs.Claims.{performs, untouched, issues as execution-is
 use Rattle.execution.specs.Issue.{issue, issueSetsStatus}
 use Rattle.machine.specs.State.{State, state}
 use Rattle.machine.proofs.Claims.{chooses, issues as machine-issues}
-use Rattle.machine.specs.Claims.{Sound}
+use Rattle.machine.specs.Claims.{KeepsRecord}
 use Rattle.machine.specs.Scheduler.{choice, withLast}
 use Rattle.machine.specs.WellFormed.{wellFormed}
 use Rattle.interpreter.specs.Answer.{spent}
 use Rattle.interpreter.specs.Choosing.{ifChosen, issued, issues, reachedBy, reached, idleEnding, endingAt}
-use Rattle.interpreter.specs.Run.{accepted}
+use Rattle.interpreter.specs.Run.{acceptedRun}
 use Rattle.interpreter.specs.Stretch.{Carried, Over}
 use Rattle.interpreter.specs.Types.{Machine, Choice, Chosen, NoneRunning}
 
@@ -27,9 +27,9 @@ chosen-thread m t d h = let f = chooses m t d .0 h in omega (arith, f .place)
 pub issue-performed : (p : List ℕ) (s : State) (t d : ℕ) (m : Machine) → length p ≤ 16384 → length (s .registers) ≡ 8704
     → choice (s .machine) ≡ Chosen t d → m ≡ withLast (s .machine) t → issue p (state m (s .registers) (s .memory)) t ≡ issued p s t
 unfolding issued
-issue-performed p s t d m words room h e =
+issue-performed p s t d m words regs h e =
     ap (λ x. issue p (state x (s .registers) (s .memory)) t) e
-    ∙ execution-issues p (state (withLast (s .machine) t) (s .registers) (s .memory)) t words room (chosen-thread (s .machine) t d h)
+    ∙ execution-issues p (state (withLast (s .machine) t) (s .registers) (s .memory)) t words regs (chosen-thread (s .machine) t d h)
 
 -- an issue that sets no status comes to the record on which the thread was issued
 pub issue-untouched : (p : List ℕ) (s after : State) (t : ℕ) → after ≡ issue p s t → (changed : Bool) → changed ≡ issueSetsStatus p s t →
@@ -39,7 +39,7 @@ issue-untouched p s after t e changed k h =
     ap (λ (m : Machine). state m (after .registers) (after .memory)) (sym same) ∙ e
 
 -- what an issue makes of the record
-pub issued-sound : (p : List ℕ) (s : State) (t : ℕ) → Sound (withLast (s .machine) t) t (issued p s t .machine)
+pub issued-sound : (p : List ℕ) (s : State) (t : ℕ) → KeepsRecord (withLast (s .machine) t) t (issued p s t .machine)
 unfolding issued
 issued-sound p s t = performs p (state (withLast (s .machine) t) (s .registers) (s .memory)) t
 
@@ -108,7 +108,7 @@ module _ (p : List ℕ) (b : ℕ) (first : State) (made : ℕ) (s : State) (k : 
   -- the same of the call that performs it, on the record m with which the thread chosen is issued
   pub carried-issue : (t d : ℕ) (m : Machine) (after : State) → length p ≤ 16384 → length (s .registers) ≡ 8704 → choice (s .machine) ≡ Chosen t d
       → m ≡ withLast (s .machine) t → made < b → after ≡ issue p (state m (s .registers) (s .memory)) t → Carried p b first (made + 1) after
-  carried-issue t d m after words room h e l i = rw (i ∙ issue-performed p s t d m words room h e) (carried-step t d h l)
+  carried-issue t d m after words regs h e l i = rw (i ∙ issue-performed p s t d m words regs h e) (carried-step t d h l)
 
   -- and more of them, from there with what is left of the budget
   pub carried-on : (more : ℕ) (t : State) → Carried p (b - made) s more t → Carried p b first (made + more) t
@@ -119,8 +119,8 @@ module _ (p : List ℕ) (b : ℕ) (first : State) (made : ℕ) (s : State) (k : 
 -- what the run answers, where it ends after these
 pub ends : (p : List ℕ) (b : ℕ) (first : State) (made : ℕ) (s : State) → Carried p b first made s → (more : ℕ) (t : State) → Carried p (b - made) s more t
     → (running : Bool) → Over p (b - made - more) t running
-    → record { answer = given (cond running spent (idleEnding (t .machine))); issues = made + more; left = t } ≡ accepted p b first
-unfolding accepted
+    → record { answer = given (cond running spent (idleEnding (t .machine))); issues = made + more; left = t } ≡ acceptedRun p b first
+unfolding acceptedRun
 ends p b first made s k more t j running o =
     let f : reached p b first ≡ t = k .state ∙ j .state ∙ o .stays in
     let g : length (issues p b first) ≡ made + more = omega (arith, k .count, j .count, ap length (o .none)) in

@@ -16,72 +16,72 @@ use Rattle.machine.specs.Machine.{zeroed, start as startRecord}
 use Rattle.machine.specs.WellFormed.{wellFormed}
 use Rattle.answer.specs.Refusal.{badProgram, badRegisters, badMemory, badMask, firstThatApplies}
 use Rattle.interpreter.specs.Refusal.{badRecord, startNumber, runNumber}
-use Rattle.interpreter.specs.Run.{number, runIssues, runReached, runAnswer, accepted, run}
+use Rattle.interpreter.specs.Run.{number, runIssues, runReached, runAnswer, acceptedRun, run}
 use Rattle.interpreter.specs.Start.{zeroes, withMasks, start}
 use Rattle.interpreter.specs.Types.{Machine}
 
 -- A start.
 
-pub record StartTaken (mask room : ℕ) : Type 0 where
-  pub registers : room ≡ 8704
+pub record StartTaken (mask regs : ℕ) : Type 0 where
+  pub registers : regs ≡ 8704
   pub low : 1 ≤ mask
   pub high : mask ≤ 255
 
-pub start-taken : (mask room : ℕ) → startNumber mask room ≡ none → StartTaken mask room
+pub start-taken : (mask regs : ℕ) → startNumber mask regs ≡ none → StartTaken mask regs
 unfolding startNumber firstThatApplies
-start-taken mask room h =
-    let a = passed (badRegisters room) 2 _ h in
+start-taken mask regs h =
+    let a = passed (badRegisters regs) 2 _ h in
     let b = passed (badMask mask) 5 none (a .1) in
     let m = neither (eqb mask 0) (ltb 255 mask) (b .0) in
     let z : mask ≡ 0 → ⊥ = eqb-false mask 0 (m .0) in
-    record { registers = eqb-true room 8704 (not-false (eqb room 8704) (a .0)); low = omega (arith, z); high = ltb-false 255 mask (m .1) }
+    record { registers = eqb-true regs 8704 (not-false (eqb regs 8704) (a .0)); low = omega (arith, z); high = ltb-false 255 mask (m .1) }
 
-module _ (mask : ℕ) (room : List ℕ) where
-  pub start-refused : (n : ℕ) → startNumber mask (length room) ≡ some n
-      → record { answer = refused n; machine = zeroed; registers = room } ≡ start mask room
+module _ (mask : ℕ) (regs : List ℕ) where
+  pub start-refused : (n : ℕ) → startNumber mask (length regs) ≡ some n
+      → record { answer = refused n; machine = zeroed; registers = regs } ≡ start mask regs
   unfolding start
   start-refused n h = rw h
 
-  pub start-accepted : startNumber mask (length room) ≡ none
-      → record { answer = given tt; machine = startRecord mask; registers = withMasks 8 (zeroes room) } ≡ start mask room
+  pub start-accepted : startNumber mask (length regs) ≡ none
+      → record { answer = given tt; machine = startRecord mask; registers = withMasks 8 (zeroes regs) } ≡ start mask regs
   unfolding start
   start-accepted h = rw h
 
 -- A run.
 
-pub record RunTaken (words room bytes : ℕ) (m : Machine) : Type 0 where
+pub record RunTaken (words regs bytes : ℕ) (m : Machine) : Type 0 where
   pub program : badProgram words ≡ false
-  pub registers : badRegisters room ≡ false
+  pub registers : badRegisters regs ≡ false
   pub memory : badMemory bytes ≡ false
   pub well-formed : wellFormed m ≡ true
 
-module _ (words room bytes : ℕ) (m : Machine) where
-  pub run-taken : runNumber words room bytes m ≡ none → RunTaken words room bytes m
+module _ (words regs bytes : ℕ) (m : Machine) where
+  pub run-taken : runNumber words regs bytes m ≡ none → RunTaken words regs bytes m
   unfolding runNumber firstThatApplies
   run-taken h =
       let a = passed (badProgram words) 1 _ h in
-      let b = passed (badRegisters room) 2 _ (a .1) in
+      let b = passed (badRegisters regs) 2 _ (a .1) in
       let c = passed (badMemory bytes) 3 _ (b .1) in
       let d = passed (badRecord m) 4 none (c .1) in
       record { program = a .0; registers = b .0; memory = c .0; well-formed = not-false (wellFormed m) (d .0) }
 
   -- and the other way round
-  pub taken-run : RunTaken words room bytes m → runNumber words room bytes m ≡ none
+  pub taken-run : RunTaken words regs bytes m → runNumber words regs bytes m ≡ none
   unfolding runNumber firstThatApplies
   taken-run k = rw (k .program, k .registers, k .memory, k .well-formed)
 
-  module _ (k : RunTaken words room bytes m) where
+  module _ (k : RunTaken words regs bytes m) where
     pub taken-words : words ≤ 16384
     taken-words = ltb-false 16384 words (neither (eqb words 0) (ltb 16384 words) (k .program) .1)
 
-    pub taken-room : room ≡ 8704
-    taken-room = eqb-true room 8704 (not-false (eqb room 8704) (k .registers))
+    pub taken-regs : regs ≡ 8704
+    taken-regs = eqb-true regs 8704 (not-false (eqb regs 8704) (k .registers))
 
 module _ (p : List ℕ) (b : ℕ) (s : State) where
   pub run-refused : (n : ℕ) → number p s ≡ some n → record { answer = refused n; issues = 0; left = s } ≡ run p b s
   unfolding run runIssues runReached runAnswer
   run-refused n h = rw h
 
-  pub run-accepted : number p s ≡ none → accepted p b s ≡ run p b s
-  unfolding run runIssues runReached runAnswer accepted
+  pub run-accepted : number p s ≡ none → acceptedRun p b s ≡ run p b s
+  unfolding run runIssues runReached runAnswer acceptedRun
   run-accepted h = rw h

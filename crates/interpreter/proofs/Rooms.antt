@@ -1,36 +1,36 @@
--- Laws of the loops that fill the register room.
+-- Laws of the loops that fill the register file.
 use Prim.Native.Nat.{ℕ, zero, suc, _+_, _<_}
 use mathlib.Core.List.{List, [], _∷_}
 use mathlib.Core.Path.{_≡_, refl, ap}
 use native.Mathlib.Numerals.{add-one}
 use native.Mathlib.Omega.{arith}
 use lib.ListN.{length, set}
-use Rattle.machine.specs.State.{scalarPlace, laneMaskRegister}
+use Rattle.machine.specs.State.{scalarIndex, laneMaskRegister}
 use Rattle.interpreter.specs.Start.{zeroes, withMasks}
 
--- the room with its first i words 0
+-- the registers with its first i words 0
 unfoldable pub cleared : List ℕ → ℕ → List ℕ
-cleared room zero = room
+cleared regs zero = regs
 cleared [] (suc i) = []
-cleared (word ∷ room) (suc i) = 0 ∷ cleared room i
+cleared (word ∷ regs) (suc i) = 0 ∷ cleared regs i
 
-cleared-suc : (room : List ℕ) (i : ℕ) → i < length room → set (cleared room i) i 0 ≡ cleared room (suc i)
+cleared-suc : (regs : List ℕ) (i : ℕ) → i < length regs → set (cleared regs i) i 0 ≡ cleared regs (suc i)
 unfolding cleared
 cleared-suc [] i l = absurd (omega arith)
-cleared-suc (word ∷ room) zero l = refl
-cleared-suc (word ∷ room) (suc i) l = ap {B = List ℕ} (λ r. 0 ∷ r) (cleared-suc room i (omega arith))
+cleared-suc (word ∷ regs) zero l = refl
+cleared-suc (word ∷ regs) (suc i) l = ap {B = List ℕ} (λ r. 0 ∷ r) (cleared-suc regs i (omega arith))
 
 -- one word more
-pub cleared-more : (room : List ℕ) (i : ℕ) → i < length room → set (cleared room i) i 0 ≡ cleared room (i + 1)
-cleared-more room i l = rw add-one (cleared-suc room i l)
+pub cleared-more : (regs : List ℕ) (i : ℕ) → i < length regs → set (cleared regs i) i 0 ≡ cleared regs (i + 1)
+cleared-more regs i l = rw add-one (cleared-suc regs i l)
 
 -- all of them
-pub cleared-all : (room : List ℕ) → cleared room (length room) ≡ zeroes room
+pub cleared-all : (regs : List ℕ) → cleared regs (length regs) ≡ zeroes regs
 unfolding cleared
 cleared-all [] = refl
-cleared-all (word ∷ room) = ap {B = List ℕ} (λ r. 0 ∷ r) (cleared-all room)
+cleared-all (word ∷ regs) = ap {B = List ℕ} (λ r. 0 ∷ r) (cleared-all regs)
 
 -- one thread's s59 more
-pub masks-more : (room : List ℕ) (t : ℕ) → set (withMasks t room) (scalarPlace t laneMaskRegister) 0xFFFF ≡ withMasks (t + 1) room
+pub masks-more : (regs : List ℕ) (t : ℕ) → set (withMasks t regs) (scalarIndex t laneMaskRegister) 0xFFFF ≡ withMasks (t + 1) regs
 unfolding withMasks
-masks-more room t = rw add-one
+masks-more regs t = rw add-one

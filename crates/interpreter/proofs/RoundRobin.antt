@@ -163,7 +163,7 @@ module _ (p : ℕ → Bool) where
       rw (distance-at l w a b) at (rw e at (way-add l (distance l w) (distance w t))) in
       omega (arith, f, way-one l (distance l w) w (distance-range l w .0) (distance-at l w a b) g)
 
--- Issues in a row. Only the record counts: who else writes the register room or memory between two of them does not matter.
+-- Issues in a row. Only the record counts: who else writes the register file or memory between two of them does not matter.
 
 -- what is so of an issue i that leads from the record m to the record next, where the threads that pass the test are enabled
 pub record IssueInTurn (on : ℕ → Bool) (m : Machine) (i : Issue) (next : Machine) : Type 0 where
@@ -176,9 +176,9 @@ pub record IssueInTurn (on : ℕ → Bool) (m : Machine) (i : Issue) (next : Mac
   pub becomes-last : next .last ≡ i .thread
   pub stays : (t : ℕ) → runs m t ≡ true → (i .thread ≡ t → ⊥) → runs next t ≡ true
 
-abbrev pub Row : (ℕ → Bool) → Machine → List Issue → Type 0
-Row on m [] = Unit {0}
-Row on m (i ∷ is) = (next : Machine) × IssueInTurn on m i next × Row on next is
+abbrev pub InTurns : (ℕ → Bool) → Machine → List Issue → Type 0
+InTurns on m [] = Unit {0}
+InTurns on m (i ∷ is) = (next : Machine) × IssueInTurn on m i next × InTurns on next is
 
 made-split : (t n : ℕ) (w : List Issue) → made t w ≡ made t (take n w) + made t (drop n w)
 made-split t zero w = omega arith
@@ -192,15 +192,15 @@ each-drop t (suc n) (i ∷ w) h = each-drop t n w (h .1)
 
 module _ (on : ℕ → Bool) where
   -- a part of a row is a row
-  pub row-after : (m : Machine) (a r : List Issue) → Row on m (a ++ r) → (m′ : Machine) × Row on m′ r
+  pub row-after : (m : Machine) (a r : List Issue) → InTurns on m (a ++ r) → (m′ : Machine) × InTurns on m′ r
   row-after m [] r c = (m, c)
   row-after m (i ∷ a) r c = row-after (c .0) a r (c .2)
 
-  pub row-front : (m : Machine) (w b : List Issue) → Row on m (w ++ b) → Row on m w
+  pub row-front : (m : Machine) (w b : List Issue) → InTurns on m (w ++ b) → InTurns on m w
   row-front m [] b c = tt
   row-front m (i ∷ w) b c = (c .0, c .1, row-front (c .0) w b (c .2))
 
-  row-drop : (n : ℕ) (m : Machine) (w : List Issue) → Row on m w → (m′ : Machine) × Row on m′ (drop n w)
+  row-drop : (n : ℕ) (m : Machine) (w : List Issue) → InTurns on m w → (m′ : Machine) × InTurns on m′ (drop n w)
   row-drop zero m w c = (m, c)
   row-drop (suc n) m [] c = (m, tt)
   row-drop (suc n) m (i ∷ w) c = row-drop n (c .0) w (c .2)
@@ -210,7 +210,7 @@ module _ (on : ℕ → Bool) where
 
   -- a thread is issued within as many issues as enabled threads are on the way to it
   soon : (t : ℕ) → t < 8 → on t ≡ true → (n : ℕ) (m : Machine) (r : List Issue) → m .last < 8 → runs m t ≡ true
-      → Row on m r → onTheWay on (m .last) (distance (m .last) t) ≤ n → n ≤ length r → 1 ≤ made t (take n r)
+      → InTurns on m r → onTheWay on (m .last) (distance (m .last) t) ≤ n → n ≤ length r → 1 ≤ made t (take n r)
   soon t b g zero m r l h c f k =
       let x = m .last in
       absurd (omega (arith, way-one on x (distance x t) t (distance-range x t .0) (distance-at x t l b) g))
@@ -218,7 +218,7 @@ module _ (on : ℕ → Bool) where
   soon t b g (suc n) m (i ∷ r) l h c f k = go (ℕ-discrete (i .thread) t) (soon t b g n (c .0) r)
     where
       go : Dec (i .thread ≡ t)
-          → (c .0 .last < 8 → runs (c .0) t ≡ true → Row on (c .0) r
+          → (c .0 .last < 8 → runs (c .0) t ≡ true → InTurns on (c .0) r
           → onTheWay on (c .0 .last) (distance (c .0 .last) t) ≤ n → n ≤ length r → 1 ≤ made t (take n r))
           → 1 ≤ made t (take n r) + cond (eqb (i .thread) t) 1 0
       go (yes e) rest = rw (eq-eqb _ _ e) (omega arith)
@@ -232,7 +232,7 @@ module _ (on : ℕ → Bool) where
           omega arith
 
   -- "A thread that is running before one of these issues is issued within E issues, that one counted first, if so many are left."
-  pub within : (m : Machine) (i : Issue) (r : List Issue) → Row on m (i ∷ r) → (t : ℕ) → RunningBefore t i → countThreads on ≤ length (i ∷ r)
+  pub within : (m : Machine) (i : Issue) (r : List Issue) → InTurns on m (i ∷ r) → (t : ℕ) → RunningBefore t i → countThreads on ≤ length (i ∷ r)
       → 1 ≤ made t (take (countThreads on) (i ∷ r))
   within m i r c t h k =
       let q = c .1 in
@@ -242,7 +242,7 @@ module _ (on : ℕ → Bool) where
       soon t (o .0) (o .1) (countThreads on) m (i ∷ r) (q .last) g c (way-most on l (distance l t) (q .last) (distance-range l t .1)) k
 
   -- one issue in each E of them
-  shares : (t : ℕ) → 1 ≤ countThreads on → (q : ℕ) (m : Machine) (w : List Issue) → Row on m w → RunningBeforeEach t w → q * countThreads on ≤ length w
+  shares : (t : ℕ) → 1 ≤ countThreads on → (q : ℕ) (m : Machine) (w : List Issue) → InTurns on m w → RunningBeforeEach t w → q * countThreads on ≤ length w
       → q ≤ made t w
   shares t o zero m w c h k = omega arith
   shares t o (suc q) m [] c h k = absurd (omega (arith, suc-mul q (countThreads on)))
@@ -256,13 +256,13 @@ module _ (on : ℕ → Bool) where
       omega (arith, made-split t e w)
 
   -- "In any W issues in a row, a thread that was running before each of them makes at least W divided by E, rounded down."
-  pub share : (m : Machine) (w : List Issue) → Row on m w → (t : ℕ) → RunningBeforeEach t w → length w / countThreads on ≤ made t w
+  pub share : (m : Machine) (w : List Issue) → InTurns on m w → (t : ℕ) → RunningBeforeEach t w → length w / countThreads on ≤ made t w
   share m [] c t h = le-of-eq (zero-div (countThreads on))
   share m (i ∷ r) c t h =
       shares t (some-counted on (i .thread) (c .1 .thread) (c .1 .enabled (i .thread) (c .1 .running) .1)) (length (i ∷ r) / countThreads on) m (i ∷ r) c h (div-mul-le-self (length (i ∷ r)) (countThreads on))
 
   -- of two threads, the one that comes first makes as many as the other, or one more
-  evenly : (w : List Issue) (m : Machine) (t u : ℕ) → (t ≡ u → ⊥) → t < 8 → u < 8 → Row on m w → RunningBeforeEach t w → RunningBeforeEach u w
+  evenly : (w : List Issue) (m : Machine) (t u : ℕ) → (t ≡ u → ⊥) → t < 8 → u < 8 → InTurns on m w → RunningBeforeEach t w → RunningBeforeEach u w
       → distance (m .last) t < distance (m .last) u → (made u w ≤ made t w) × (made t w ≤ made u w + 1)
   evenly [] m t u n a b c h k l = omega arith
   evenly (i ∷ w) m t u n a b c h k l =
@@ -291,7 +291,7 @@ module _ (on : ℕ → Bool) where
           rw (ne-eqb _ _ e, ne-eqb _ _ v) (omega arith)
 
   -- "Two such threads differ by at most one."
-  pub even : (m : Machine) (w : List Issue) → Row on m w → (t u : ℕ) → RunningBeforeEach t w → RunningBeforeEach u w → made t w ≤ made u w + 1
+  pub even : (m : Machine) (w : List Issue) → InTurns on m w → (t u : ℕ) → RunningBeforeEach t w → RunningBeforeEach u w → made t w ≤ made u w + 1
   even m [] c t u h k = omega arith
   even m (i ∷ w) c t u h k = go (ℕ-discrete t u) (decLt (distance l t) (distance l u))
     where

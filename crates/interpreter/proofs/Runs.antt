@@ -13,7 +13,7 @@ use Rattle.machine.specs.Scheduler.{choice, withLast, someWaits}
 use Rattle.machine.specs.WellFormed.{wellFormed}
 use Rattle.interpreter.specs.Answer.{stopped, stuck, spent}
 use Rattle.interpreter.specs.Choosing.{Issue, ifChosen, issued, issues, reached, idleEnding, endingAt}
-use Rattle.interpreter.specs.Claims.{StaysWellFormed, MaskStays, LengthsStay, WithinBudget, SpendsBudget, Joined, Joins, numberIn, AnswersNumber, TakenWellFormed, NoBudget}
+use Rattle.interpreter.specs.Claims.{StaysWellFormed, MaskStays, LengthsStay, WithinBudget, SpendsBudget, Joined, Composes, numberIn, AnswersNumber, TakenWellFormed, NoBudget}
 use Rattle.answer.specs.Refusal.{refusedOr}
 use Rattle.interpreter.specs.Run.{number, runIssues, runReached, runAnswer}
 use Rattle.interpreter.specs.Types.{Choice, Chosen, NoneRunning}
@@ -51,13 +51,13 @@ mask-kept : (mask : ℕ) (p : List ℕ) → Kept (λ s. s .machine .enabled ≡ 
 unfolding Kept
 mask-kept mask p s t d e h = issued-sound p s t .enabled ∙ h
 
--- the lengths of the register room and of memory
+-- the lengths of the register file and of memory
 abbrev Sized : ℕ → ℕ → State → Type 0
-Sized room bytes s = (length (s .registers) ≡ room) × (length (s .memory) ≡ bytes)
+Sized regs bytes s = (length (s .registers) ≡ regs) × (length (s .memory) ≡ bytes)
 
-lengths-kept : (room bytes : ℕ) (p : List ℕ) → Kept (Sized room bytes) p
+lengths-kept : (regs bytes : ℕ) (p : List ℕ) → Kept (Sized regs bytes) p
 unfolding Kept issued
-lengths-kept room bytes p s t d e h =
+lengths-kept regs bytes p s t d e h =
     let r : State = state (withLast (s .machine) t) (s .registers) (s .memory) in
     (lengths .of-registers p r t ∙ h .0, lengths .of-memory p r t ∙ h .1)
 
@@ -159,7 +159,7 @@ taken-still p b s h =
     taken-run (length p) (length (reached p b s .registers)) (length (reached p b s .memory)) (reached p b s .machine)
     (record { program = k .program; registers = rw (l .0) (k .registers); memory = rw (l .1) (k .memory); well-formed = w })
 
-pub joins : Joins
+pub joins : Composes
 unfolding runIssues runReached runAnswer
 joins p n m s = go (number p s) refl
   where

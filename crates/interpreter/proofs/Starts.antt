@@ -10,65 +10,65 @@ use lib.Seq.{getD-set-same, getD-set-other}
 use Rattle.answer.specs.Answer.{given, refused}
 use Rattle.machine.proofs.Claims.{started}
 use Rattle.machine.specs.Machine.{zeroed, start as startRecord}
-use Rattle.interpreter.specs.Claims.{Starts, StartRooms}
+use Rattle.interpreter.specs.Claims.{Starts, StartRegisters}
 use Rattle.answer.specs.Refusal.{refusedOr}
 use Rattle.interpreter.specs.Refusal.{startNumber}
-use Rattle.machine.specs.State.{scalarPlace, laneMaskRegister}
+use Rattle.machine.specs.State.{scalarIndex, laneMaskRegister}
 use Rattle.interpreter.specs.Start.{Beginning, zeroes, withMasks, start}
 use Rattle.interpreter.proofs.Refusals.{start-taken, start-accepted}
 
 -- the table gives it no number
-unrefused : (mask : ℕ) (room : List ℕ) → start mask room .answer ≡ given tt → startNumber mask (length room) ≡ none
+unrefused : (mask : ℕ) (regs : List ℕ) → start mask regs .answer ≡ given tt → startNumber mask (length regs) ≡ none
 unfolding start
-unrefused mask room h = go (startNumber mask (length room)) h
+unrefused mask regs h = go (startNumber mask (length regs)) h
   where
     go : (o : Option ℕ)
-        → refusedOr {A = Beginning} o (λ n. record { answer = refused n; machine = zeroed; registers = room })
-        (record { answer = given tt; machine = startRecord mask; registers = withMasks 8 (zeroes room) }) .answer ≡ given tt
+        → refusedOr {A = Beginning} o (λ n. record { answer = refused n; machine = zeroed; registers = regs })
+        (record { answer = given tt; machine = startRecord mask; registers = withMasks 8 (zeroes regs) }) .answer ≡ given tt
         → o ≡ none
     go none e = refl
     go (some n) e = absurd (let z : _≡_ {A = ℕ} 0 1 = cc in omega arith)
 
 pub starts : Starts
-starts mask room h =
-    let e = unrefused mask room h in
-    let k = start-taken mask (length room) e in
-    rw (← start-accepted mask room e) (started mask (k .low) (k .high))
+starts mask regs h =
+    let e = unrefused mask regs h in
+    let k = start-taken mask (length regs) e in
+    rw (← start-accepted mask regs e) (started mask (k .low) (k .high))
 
--- The register room.
+-- The register file.
 
-module _ (room : List ℕ) where
-  masks-size : (n : ℕ) → length (withMasks n room) ≡ length room
+module _ (regs : List ℕ) where
+  masks-size : (n : ℕ) → length (withMasks n regs) ≡ length regs
   unfolding withMasks
   masks-size zero = refl
-  masks-size (suc n) = length-set (withMasks n room) (scalarPlace n laneMaskRegister) 0xFFFF ∙ masks-size n
+  masks-size (suc n) = length-set (withMasks n regs) (scalarIndex n laneMaskRegister) 0xFFFF ∙ masks-size n
 
-  masks-at : (n t : ℕ) → t < n → 64 * n ≤ length room → getD (withMasks n room) (scalarPlace t laneMaskRegister) 0 ≡ 0xFFFF
+  masks-at : (n t : ℕ) → t < n → 64 * n ≤ length regs → getD (withMasks n regs) (scalarIndex t laneMaskRegister) 0 ≡ 0xFFFF
   unfolding withMasks
   masks-at zero t l h = absurd (omega arith)
   masks-at (suc n) t l h = go (ℕ-discrete t n) (λ k. masks-at n t k (omega arith))
     where
-      go : Dec (t ≡ n) → (t < n → getD (withMasks n room) (scalarPlace t laneMaskRegister) 0 ≡ 0xFFFF)
-          → getD (set (withMasks n room) (scalarPlace n laneMaskRegister) 0xFFFF) (scalarPlace t laneMaskRegister) 0 ≡ 0xFFFF
-      go (yes e) rest = rw e (getD-set-same (withMasks n room) (scalarPlace n laneMaskRegister) 0xFFFF 0 (omega (arith, masks-size n)))
+      go : Dec (t ≡ n) → (t < n → getD (withMasks n regs) (scalarIndex t laneMaskRegister) 0 ≡ 0xFFFF)
+          → getD (set (withMasks n regs) (scalarIndex n laneMaskRegister) 0xFFFF) (scalarIndex t laneMaskRegister) 0 ≡ 0xFFFF
+      go (yes e) rest = rw e (getD-set-same (withMasks n regs) (scalarIndex n laneMaskRegister) 0xFFFF 0 (omega (arith, masks-size n)))
       go (no e) rest =
-          getD-set-other (withMasks n room) (scalarPlace n laneMaskRegister) (scalarPlace t laneMaskRegister) 0xFFFF 0 (λ f. e (omega arith)) ∙ rest (omega (arith, e))
+          getD-set-other (withMasks n regs) (scalarIndex n laneMaskRegister) (scalarIndex t laneMaskRegister) 0xFFFF 0 (λ f. e (omega arith)) ∙ rest (omega (arith, e))
 
-  masks-other : (n i : ℕ) → ((t : ℕ) → t < n → i ≡ scalarPlace t laneMaskRegister → ⊥) → getD (withMasks n room) i 0 ≡ getD room i 0
+  masks-other : (n i : ℕ) → ((t : ℕ) → t < n → i ≡ scalarIndex t laneMaskRegister → ⊥) → getD (withMasks n regs) i 0 ≡ getD regs i 0
   unfolding withMasks
   masks-other zero i h = refl
   masks-other (suc n) i h =
-      getD-set-other (withMasks n room) (scalarPlace n laneMaskRegister) i 0xFFFF 0 (h n (omega arith)) ∙ masks-other n i (λ t l. h t (omega arith))
+      getD-set-other (withMasks n regs) (scalarIndex n laneMaskRegister) i 0xFFFF 0 (h n (omega arith)) ∙ masks-other n i (λ t l. h t (omega arith))
 
-pub start-rooms : StartRooms
-start-rooms mask room h =
-    let e = unrefused mask room h in
-    let k = start-taken mask (length room) e in
-    let r = zeroes room in
-    let size : length r ≡ 8704 = length-map room (λ word. 0) ∙ k .registers in
-    let f : start mask room .registers ≡ withMasks 8 r = sym (ap (λ (x : Beginning). x .registers) (start-accepted mask room e)) in
+pub start-rooms : StartRegisters
+start-rooms mask regs h =
+    let e = unrefused mask regs h in
+    let k = start-taken mask (length regs) e in
+    let r = zeroes regs in
+    let size : length r ≡ 8704 = length-map regs (λ word. 0) ∙ k .registers in
+    let f : start mask regs .registers ≡ withMasks 8 r = sym (ap (λ (x : Beginning). x .registers) (start-accepted mask regs e)) in
     record {
       size = ap length f ∙ (masks-size r 8 ∙ size);
-      masks = λ t l. ap (λ x. getD x (scalarPlace t laneMaskRegister) 0) f ∙ masks-at r 8 t l (omega arith);
-      zeros = λ i g. ap (λ x. getD x i 0) f ∙ (masks-other r 8 i g ∙ List·getD-map (λ word. 0) room i 0);
+      masks = λ t l. ap (λ x. getD x (scalarIndex t laneMaskRegister) 0) f ∙ masks-at r 8 t l (omega arith);
+      zeros = λ i g. ap (λ x. getD x i 0) f ∙ (masks-other r 8 i g ∙ List·getD-map (λ word. 0) regs i 0);
     }

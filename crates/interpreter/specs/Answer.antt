@@ -14,7 +14,7 @@ answered Stuck = given stuck
 answered Spent = given spent
 answered (RunRefused number) = refused number
 
--- that a start is not refused is all that its answer says: the record and the register room stand beside it
+-- that a start is not refused is all that its answer says: the record and the register file stand beside it
 abbrev pub startAnswered : StartAnswer → Answer (Unit {0})
 startAnswered Started = given tt
 startAnswered (StartRefused number) = refused number

@@ -7,8 +7,8 @@ use mathlib.Core.Option.{Option, none, some}
 use mathlib.Core.Path.{_≡_}
 use lib.ListN.{length, getD}
 use Rattle.answer.specs.Answer.{Answer, given, refused}
-use Rattle.answer.specs.Refusal.{roomWords}
-use Rattle.machine.specs.State.{State, scalarPlace, laneMaskRegister}
+use Rattle.answer.specs.Refusal.{registerWords}
+use Rattle.machine.specs.State.{State, scalarIndex, laneMaskRegister}
 use Rattle.machine.specs.Scheduler.{runs, waits}
 use Rattle.machine.specs.WellFormed.{wellFormed}
 use Rattle.interpreter.specs.Answer.{Ending, stopped, stuck, spent}
@@ -22,17 +22,17 @@ use Rattle.interpreter.specs.Types.{Machine}
 
 -- a start that is not refused makes a well-formed record with the mask's threads enabled
 abbrev pub Starts : Type 0
-Starts = (mask : ℕ) (room : List ℕ) → start mask room .answer ≡ given tt
-    → (wellFormed (start mask room .machine) ≡ true) × (start mask room .machine .enabled ≡ mask)
+Starts = (mask : ℕ) (regs : List ℕ) → start mask regs .answer ≡ given tt
+    → (wellFormed (start mask regs .machine) ≡ true) × (start mask regs .machine .enabled ≡ mask)
 
--- and a register room in which every s59 is 0xFFFF, and every other word 0
-pub record StartRoom (mask : ℕ) (room : List ℕ) : Type 0 where
-  pub size : length (start mask room .registers) ≡ roomWords
-  pub masks : (t : ℕ) → t < 8 → getD (start mask room .registers) (scalarPlace t laneMaskRegister) 0 ≡ 0xFFFF
-  pub zeros : (i : ℕ) → ((t : ℕ) → t < 8 → i ≡ scalarPlace t laneMaskRegister → ⊥) → getD (start mask room .registers) i 0 ≡ 0
+-- and a register file in which every s59 is 0xFFFF, and every other word 0
+pub record StartRegister (mask : ℕ) (regs : List ℕ) : Type 0 where
+  pub size : length (start mask regs .registers) ≡ registerWords
+  pub masks : (t : ℕ) → t < 8 → getD (start mask regs .registers) (scalarIndex t laneMaskRegister) 0 ≡ 0xFFFF
+  pub zeros : (i : ℕ) → ((t : ℕ) → t < 8 → i ≡ scalarIndex t laneMaskRegister → ⊥) → getD (start mask regs .registers) i 0 ≡ 0
 
-abbrev pub StartRooms : Type 0
-StartRooms = (mask : ℕ) (room : List ℕ) → start mask room .answer ≡ given tt → StartRoom mask room
+abbrev pub StartRegisters : Type 0
+StartRegisters = (mask : ℕ) (regs : List ℕ) → start mask regs .answer ≡ given tt → StartRegister mask regs
 
 -- A run of a program p, with a budget b, from a state s.
 
@@ -88,8 +88,8 @@ pub record Joined (p : List ℕ) (n m : ℕ) (s : State) : Type 0 where
   pub reached : runReached p (n + m) s ≡ runReached p m (runReached p n s)
   pub answer : runAnswer p (n + m) s ≡ runAnswer p m (runReached p n s)
 
-abbrev pub Joins : Type 0
-Joins = (p : List ℕ) (n m : ℕ) (s : State) → Joined p n m s
+abbrev pub Composes : Type 0
+Composes = (p : List ℕ) (n m : ℕ) (s : State) → Joined p n m s
 
 -- What a refusal tells, and a run with no budget.
 
@@ -110,7 +110,7 @@ TakenWellFormed = (p : List ℕ) (s : State) → number p s ≡ none → wellFor
 abbrev pub NoBudget : Type 0
 NoBudget = (p : List ℕ) (s : State) → runReached p 0 s ≡ s
 
--- Runs between which somebody else writes the register room or memory: the turns stay fair all the same.
+-- Runs between which somebody else writes the register file or memory: the turns stay fair all the same.
 
 -- a run, and the state that it begins from
 pub record Begun : Type 0 where

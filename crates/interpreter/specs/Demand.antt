@@ -84,6 +84,6 @@ pub record Demand (calls : List Call) (s : State) (e : ℕ) : Type 0 where
   pub turns : Fair (written calls s) e
 
 -- "This holds for every list of run calls from a well-formed state, refused calls included."
--- "The list begins with any record that is well formed with its numbers in range, and any register room and memory, of any length."
+-- "The list begins with any record that is well formed with its numbers in range, and any register file and memory, of any length."
 abbrev pub DemandHolds : Type 0
 DemandHolds = (calls : List Call) (s : State) → wellFormed (s .machine) ≡ true → Session calls s → Demand calls s (enabledThreads (s .machine))

@@ -18,10 +18,10 @@ recordChecks m = check bad-record (badRecord m) ∷ []
 unfoldable pub recordNumber : Machine → Option ℕ
 recordNumber m = firstThatApplies (recordChecks m)
 
--- a start takes a mask, and a register room of so many words
+-- a start takes a mask, and a register file of so many words
 unfoldable pub startNumber : ℕ → ℕ → Option ℕ
-startNumber mask room = firstThatApplies (check bad-registers (badRegisters room) ∷ check bad-mask (badMask mask) ∷ [])
+startNumber mask regs = firstThatApplies (check bad-registers (badRegisters regs) ∷ check bad-mask (badMask mask) ∷ [])
 
--- a run takes a program and a register room of so many words, a memory of so many bytes, and a record
+-- a run takes a program and a register file of so many words, a memory of so many bytes, and a record
 unfoldable pub runNumber : ℕ → ℕ → ℕ → Machine → Option ℕ
-runNumber words room bytes m = firstThatApplies (lengthChecks words room bytes ++ recordChecks m)
+runNumber words regs bytes m = firstThatApplies (lengthChecks words regs bytes ++ recordChecks m)

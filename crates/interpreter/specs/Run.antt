@@ -44,5 +44,5 @@ unfoldable pub run : List ℕ → ℕ → State → Outcome
 run p b s = record { answer = runAnswer p b s; issues = length (runIssues p b s); left = runReached p b s }
 
 -- the same of a run that is not refused
-unfoldable pub accepted : List ℕ → ℕ → State → Outcome
-accepted p b s = record { answer = given (endingAt (reached p b s)); issues = length (issues p b s); left = reached p b s }
+unfoldable pub acceptedRun : List ℕ → ℕ → State → Outcome
+acceptedRun p b s = record { answer = given (endingAt (reached p b s)); issues = length (issues p b s); left = reached p b s }

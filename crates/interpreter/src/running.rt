@@ -4,12 +4,12 @@ ghost use mathlib.Core.Bool.{cond};
 ghost use mathlib.Core.Path.{_≡_};
 ghost use lib.ListN.{length};
 ghost use Rattle.answer.specs.Answer.{given};
-ghost use Rattle.answer.specs.Refusal.{numbered, programWords, roomWords};
+ghost use Rattle.answer.specs.Refusal.{numberOf, programWords, registerWords};
 ghost use Rattle.machine.specs.State.{state};
 ghost use Rattle.interpreter.specs.Answer.{stopped, stuck, spent, answered};
 ghost use Rattle.interpreter.specs.Choosing.{idleEnding};
 ghost use Rattle.interpreter.specs.Refusal.{recordNumber, runNumber};
-ghost use Rattle.interpreter.specs.Run.{outcome, accepted, run};
+ghost use Rattle.interpreter.specs.Run.{outcome, acceptedRun, run};
 ghost use Rattle.interpreter.specs.Stretch.{Stretched};
 use crate::outcome::Run;
 use crate::outcome::RunAnswer;
@@ -21,7 +21,7 @@ use machine::Machine;
 
 // The number that a machine record is refused with, if any.
 fn record_verdict(machine: Machine) -> Verdict
-    ensures { λ r. ⌜ numbered r ≡ recordNumber machine ⌝ }
+    ensures { λ r. ⌜ numberOf r ≡ recordNumber machine ⌝ }
 {
     let well_formed = machine.well_formed();
     if well_formed {
@@ -30,11 +30,11 @@ fn record_verdict(machine: Machine) -> Verdict
     Verdict::Refused(4)
 }
 
-// The number that a run is refused with, if any: of the words of its program and register room, the bytes of its memory, and its record.
-fn run_verdict(words: usize, room: usize, bytes: usize, machine: Machine) -> Verdict
-    ensures { λ r. ⌜ numbered r ≡ runNumber words room bytes machine ⌝ }
+// The number that a run is refused with, if any: of the words of its program and register file, the bytes of its memory, and its record.
+fn run_verdict(words: usize, regs: usize, bytes: usize, machine: Machine) -> Verdict
+    ensures { λ r. ⌜ numberOf r ≡ runNumber words regs bytes machine ⌝ }
 {
-    let lengths = lengths_verdict(words, room, bytes);
+    let lengths = lengths_verdict(words, regs, bytes);
     let content = record_verdict(machine);
     first_refusal(lengths, content)
 }
@@ -82,7 +82,7 @@ fn make_stretch(
     mut machine: Machine,
     budget: u32,
 ) -> Stretch
-    requires { ⌜ (length (now program) ≤ programWords) × (length (now registers) ≡ roomWords) ⌝ }
+    requires { ⌜ (length (now program) ≤ programWords) × (length (now registers) ≡ registerWords) ⌝ }
     ensures { λ r. ⌜ Stretched (now (program .entry)) budget (state machine (now (registers .entry)) (now (memory .entry))) r (state (r .machine) (now (registers .exit)) (now (memory .exit))) ⌝ }
 {
     let mut made: u32 = 0;
@@ -134,8 +134,8 @@ fn make_issues(
     mut machine: Machine,
     budget: u32,
 ) -> Run
-    requires { ⌜ (length (now program) ≤ programWords) × (length (now registers) ≡ roomWords) ⌝ }
-    ensures { λ r. ⌜ outcome r (now (registers .exit)) (now (memory .exit)) ≡ accepted (now (program .entry)) budget (state machine (now (registers .entry)) (now (memory .entry))) ⌝ }
+    requires { ⌜ (length (now program) ≤ programWords) × (length (now registers) ≡ registerWords) ⌝ }
+    ensures { λ r. ⌜ outcome r (now (registers .exit)) (now (memory .exit)) ≡ acceptedRun (now (program .entry)) budget (state machine (now (registers .entry)) (now (memory .entry))) ⌝ }
 {
     let mut made: u32 = 0;
     loop {

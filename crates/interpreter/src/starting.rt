@@ -2,7 +2,7 @@
 ghost use Prim.Native.Nat.{_≤_};
 ghost use mathlib.Core.Path.{_≡_};
 ghost use lib.ListN.{length};
-ghost use Rattle.answer.specs.Refusal.{numbered};
+ghost use Rattle.answer.specs.Refusal.{numberOf};
 ghost use Rattle.interpreter.specs.Refusal.{startNumber};
 ghost use Rattle.interpreter.specs.Start.{zeroes, withMasks, started, start};
 use crate::outcome::Start;
@@ -13,11 +13,11 @@ use answer::bad_registers;
 use machine::LANE_MASK;
 use machine::Machine;
 
-// The number that a start is refused with, if any: of its mask, and of the words of its register room.
-fn start_verdict(mask: u32, room: usize) -> Verdict
-    ensures { λ r. ⌜ numbered r ≡ startNumber mask room ⌝ }
+// The number that a start is refused with, if any: of its mask, and of the words of its register file.
+fn start_verdict(mask: u32, regs: usize) -> Verdict
+    ensures { λ r. ⌜ numberOf r ≡ startNumber mask regs ⌝ }
 {
-    let wrong_room = bad_registers(room);
+    let wrong_room = bad_registers(regs);
     let wrong_mask = bad_mask(mask);
     if wrong_room {
         return Verdict::Refused(2);

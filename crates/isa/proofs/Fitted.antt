@@ -8,12 +8,12 @@ use lib.Dec.{eqb}
 use borrow.Author.Count.{below-more}
 use borrow.Author.Tests.{eqb-true}
 use Rattle.isa.proofs.Both.{and-left, and-right}
-use Rattle.isa.proofs.Cases.{by-test, by-accepted, by-listed}
+use Rattle.isa.proofs.Cases.{by-test, by-guarded, by-listed}
 use Rattle.isa.proofs.Formats.{is-R, is-M}
 use Rattle.answer.specs.Answer.{Answer, given, refused}
 use Rattle.isa.specs.Claims.{namedM, notFittedR, notFittedM, notFitted, NotFittedExactly, RowsHold}
 use Rattle.word_layout.specs.Layout.{bits, signed}
-use Rattle.isa.specs.Read.{reads, read, readR, readI, readMovei, readJ, readC, readM, asR, asI, asMovei, asJ, asC, asM, accepted, listed}
+use Rattle.isa.specs.Read.{reads, read, readR, readI, readMovei, readJ, readC, readM, asR, asI, asMovei, asJ, asC, asM, guarded, listed}
 use Rattle.isa.specs.Table.{find, operationAt, tableR, tableM, not-fitted-opcodes}
 use Rattle.isa.specs.Test.{all, isIn}
 use Rattle.isa.specs.Types.{Instruction}
@@ -36,18 +36,18 @@ undefined-other : Other (refused 7)
 unfolding Other isEight
 undefined-other = refl
 
-accepted-other : (t : Bool) (i : Instruction) → Other (accepted t i)
+guarded-other : (t : Bool) (i : Instruction) → Other (guarded t i)
 unfolding Other isEight
-accepted-other t i = by-accepted (λ a. isEight a ≡ false) t refl refl
+guarded-other t i = by-guarded (λ a. isEight a ≡ false) t refl refl
 
 -- I, MOVEI, J and C have no such words
 read-other : (w : ℕ) → Other (readI w) × Other (readMovei w) × Other (readJ w) × Other (readC w)
 unfolding readI readMovei readJ readC asI asMovei asJ asC
 read-other w = (
-  by-listed Other _ (λ op. accepted-other _ _) undefined-other,
-  by-listed Other _ (λ op. accepted-other _ _) undefined-other,
-  by-listed Other _ (λ op. accepted-other _ _) undefined-other,
-  by-listed Other _ (λ op. accepted-other _ _) undefined-other,
+  by-listed Other _ (λ op. guarded-other _ _) undefined-other,
+  by-listed Other _ (λ op. guarded-other _ _) undefined-other,
+  by-listed Other _ (λ op. guarded-other _ _) undefined-other,
+  by-listed Other _ (λ op. guarded-other _ _) undefined-other,
 )
 
 -- R and M: by the opcode, and by the bits that the line names
@@ -121,7 +121,7 @@ two-bits (suc (suc a)) b h g = absurd (let z : suc (suc a) < 2 = h in omega arit
 of-R : (w : ℕ) → isEight (readR w) ≡ notFittedR (bits w 29 24) (bits w 4 4)
 unfolding readR asR
 of-R w =
-    by-opcode _ (asR w) _ (eqb (bits w 4 4) 1) (λ op. taken (eqb (bits w 4 4) 1) _ (accepted-other _ _))
+    by-opcode _ (asR w) _ (eqb (bits w 4 4) 1) (λ op. taken (eqb (bits w 4 4) 1) _ (guarded-other _ _))
     ∙ opcodes-R (eqb (bits w 4 4) 1) (bits w 29 24) (omega arith)
     ∙ ap (notFittedR (bits w 29 24)) (bit-is (bits w 4 4) (omega arith))
 
@@ -132,7 +132,7 @@ if-and false b = refl
 of-M : (w : ℕ) → isEight (readM w) ≡ notFittedM (bits w 29 24) (bits w 2 2) (bits w 1 1)
 unfolding readM asM
 of-M w =
-    by-opcode _ (asM w) _ (not (eqb (bits w 2 1) 0)) (λ op. left (eqb (bits w 2 1) 0) _ (accepted-other _ _))
+    by-opcode _ (asM w) _ (not (eqb (bits w 2 1) 0)) (λ op. left (eqb (bits w 2 1) 0) _ (guarded-other _ _))
     ∙ ap (λ t. cond t (not (eqb (bits w 2 1) 0)) false) (opcodes-M (bits w 29 24) (omega arith))
     ∙ if-and (namedM (bits w 29 24)) (not (eqb (bits w 2 1) 0))
     ∙ ap (λ (n : ℕ). namedM (bits w 29 24) && not (eqb n 0)) (let e : bits w 2 1 ≡ 2 * bits w 2 2 + bits w 1 1 = omega arith in e)
@@ -173,5 +173,5 @@ unfolding NotFittedExactly isEight
 not-fitted-exactly w = ((λ e. sym (of-word w) ∙ ap isEight e), (λ e. eight (read w) (of-word w ∙ e)))
 
 pub rows-hold : RowsHold
-unfolding RowsHold read readR readI readMovei readJ readC readM asR asI asMovei asJ asC asM accepted listed find all signed
+unfolding RowsHold read readR readI readMovei readJ readC readM asR asI asMovei asJ asC asM guarded listed find all signed
 rows-hold = (refl, (refl, (refl, (refl, (refl, (refl, (refl, (refl, (refl, (refl, (refl, (refl, (refl, (refl, (refl, tt)))))))))))))))

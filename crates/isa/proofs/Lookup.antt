@@ -7,9 +7,9 @@ use mathlib.Core.Option.{none, some}
 use native.Mathlib.Omega.{arith}
 use lib.Dec.{eqb}
 use borrow.Author.Tests.{ne-eqb, eqb-true}
-use Rattle.isa.specs.Table.{Row, find}
+use Rattle.isa.specs.Table.{OpcodeRow, find}
 
-module _ {A : Type 0} (rowOf : A → Row) (o : ℕ) where
+module _ {A : Type 0} (rowOf : A → OpcodeRow) (o : ℕ) where
   -- the opcode is none of theirs, in the form in which a `match` says it: after what is known of the earlier ones
   abbrev pub Absent : Type 0 → List A → Type 0
   Absent P [] = P
@@ -26,7 +26,7 @@ module _ {A : Type 0} (rowOf : A → Row) (o : ℕ) where
       rw (ne-eqb o (rowOf op .opcode) (earlier (P × (o ≡ rowOf op .opcode → ⊥)) ops h .1), find) (absent (P × (o ≡ rowOf op .opcode → ⊥)) ops h)
 
 -- the operation found has the opcode
-pub found : {A : Type 0} (rowOf : A → Row) (ops : List A) (o : ℕ) (op : A) → find rowOf ops o ≡ some op → rowOf op .opcode ≡ o
+pub found : {A : Type 0} (rowOf : A → OpcodeRow) (ops : List A) (o : ℕ) (op : A) → find rowOf ops o ≡ some op → rowOf op .opcode ≡ o
 unfolding find
 found rowOf [] o op e = let z : _≡_ {A = ℕ} 0 1 = cc in absurd (omega arith)
 found rowOf (x ∷ xs) o op e = by (eqb o (rowOf x .opcode)) refl e (found rowOf xs o op)

@@ -11,7 +11,7 @@ use lib.ListN.{length}
 use lib.Pow.{pow-pos, pow-add, mod-pow-add, high, low}
 use borrow.Author.Tests.{eqb-true, leb-true, ltb-true, lt-ltb}
 use Rattle.isa.proofs.Both.{and-left, and-right, Each}
-use Rattle.word_layout.specs.Layout.{Part, width, unpack, pack, room}
+use Rattle.word_layout.specs.Layout.{Part, width, unpack, pack, eachFits}
 
 -- the parts lie one below the other, from just below bit `top` down to bit 0
 abbrev pub covers : ℕ → List Part → Bool
@@ -38,7 +38,7 @@ pack-unpack top (p ∷ ps) c w =
     rw (pack-unpack (p .low) ps (f .rest) w, ← f .sum) (sym (mod-pow-add w (width p) (p .low)))
 
 -- numbers that have room make a word of `top` bits
-pub pack-below : (top : ℕ) (ps : List Part) → covers top ps ≡ true → (vs : List ℕ) → length vs ≡ length ps → Each (room ps vs) → pack ps vs < 2 ^ top
+pub pack-below : (top : ℕ) (ps : List Part) → covers top ps ≡ true → (vs : List ℕ) → length vs ≡ length ps → Each (eachFits ps vs) → pack ps vs < 2 ^ top
 pack-below top [] c vs l h = pow-pos top
 pack-below top (p ∷ ps) c [] l h = pow-pos top
 pack-below top (p ∷ ps) c (v ∷ vs) l h =
@@ -47,7 +47,7 @@ pack-below top (p ∷ ps) c (v ∷ vs) l h =
     (digits-lt (ltb-true v (2 ^ width p) (h .0)) (pack-below (p .low) ps (f .rest) vs (suc-inj l) (h .1)))
 
 -- a word has the parts that it was put together from, whatever stands above it
-pub unpack-pack : (top : ℕ) (ps : List Part) → covers top ps ≡ true → (vs : List ℕ) → length vs ≡ length ps → Each (room ps vs) →
+pub unpack-pack : (top : ℕ) (ps : List Part) → covers top ps ≡ true → (vs : List ℕ) → length vs ≡ length ps → Each (eachFits ps vs) →
     (x : ℕ) → unpack ps (x * 2 ^ top + pack ps vs) ≡ vs
 unpack-pack top [] c [] l h x = refl
 unpack-pack top [] c (v ∷ vs) l h x = let z : _≡_ {A = ℕ} 0 1 = cc in absurd (omega arith)
@@ -64,6 +64,6 @@ unpack-pack top (p ∷ ps) c (v ∷ vs) l h x =
     regroup x v r j k t e = rw (← e, pow-add 2 j k, ← mul-assoc x (2 ^ j) (2 ^ k), add-mul (x * 2 ^ j) v (2 ^ k)) (sym (add-assoc (x * 2 ^ j * 2 ^ k) (v * 2 ^ k) r))
 
 -- a word's parts have room
-pub room-unpack : (ps : List Part) (w : ℕ) → Each (room ps (unpack ps w))
-room-unpack [] w = tt
-room-unpack (p ∷ ps) w = (lt-ltb _ _ (mod-lt (w / 2 ^ (p .low)) (pow-pos (width p))), room-unpack ps w)
+pub eachFits-unpack : (ps : List Part) (w : ℕ) → Each (eachFits ps (unpack ps w))
+eachFits-unpack [] w = tt
+eachFits-unpack (p ∷ ps) w = (lt-ltb _ _ (mod-lt (w / 2 ^ (p .low)) (pow-pos (width p))), eachFits-unpack ps w)

@@ -7,7 +7,7 @@ use mathlib.Core.Path.{_≡_, refl, _∙_}
 use native.Mathlib.Omega.{arith}
 use lib.Dec.{eqb}
 use borrow.Author.Tests.{eqb-true, eqb-false}
-use Rattle.isa.proofs.Answers.{not-given, accepted-is, accept, accept-one, listed-is, encoded-is, encodes}
+use Rattle.isa.proofs.Answers.{not-given, guarded-is, accept, accept-one, listed-is, encoded-is, encodes}
 use Rattle.isa.proofs.Both.{each, and-left, and-right, and-both}
 use Rattle.isa.proofs.Formats.{is-R, is-I, is-Movei, is-J, is-C, is-M}
 use Rattle.isa.proofs.Lookup.{found}
@@ -102,7 +102,7 @@ unfolding readR asR write writeR
 from-R w i b p e =
     let o = listed-is _ (asR w) _ i e in
     let f = fitted-is _ not-fitted _ i (o .is) in
-    let t = accepted-is _ _ i (f .1) in
+    let t = guarded-is _ _ i (f .1) in
     let h = each (eqb (bits w 5 5) 0 ∷ eqb (bits w 0 0) 0 ∷ allowsR (o .op) (bits w 3 1) (bits w 23 18) (bits w 11 6) ∷ []) (t .0) in
     let po : rowR (o .op) .opcode ≡ bits w 29 24 = found rowR (tableR .operations) (bits w 29 24) (o .op) (o .at) in
     let p4 : bits w 4 4 ≡ 0 = not-one (bits w 4 4) (omega arith) (f .0) in
@@ -115,7 +115,7 @@ from-I : (w : ℕ) (i : Instruction) → w < 2 ^ 32 → bits w 31 29 ≡ 0b010 �
 unfolding readI asI write writeI
 from-I w i b p e =
     let o = listed-is _ (asI w) _ i e in
-    let t = accepted-is _ _ i (o .is) in
+    let t = guarded-is _ _ i (o .is) in
     let h = each (eqb (bits w 0 0) 0 ∷ allowsI (o .op) (bits w 2 1) (bits w 23 18) ∷ []) (t .0) in
     let po : rowR (o .op) .opcode ≡ bits w 28 24 = found rowR (tableR .operations) (bits w 28 24) (o .op) (o .at) in
     let p0 : bits w 0 0 ≡ 0 = eqb-true _ _ (h .0) in
@@ -129,7 +129,7 @@ from-Movei : (w : ℕ) (i : Instruction) → w < 2 ^ 32 → bits w 31 27 ≡ 0b0
 unfolding readMovei asMovei write writeMovei
 from-Movei w i b p e =
     let o = listed-is _ (asMovei w) _ i e in
-    let t = accepted-is _ _ i (o .is) in
+    let t = guarded-is _ _ i (o .is) in
     let h = each (eqb (bits w 0 0) 0 ∷ allowsMovei (bits w 1 1) (bits w 23 18) ∷ []) (t .0) in
     let po : rowMovei (o .op) .opcode ≡ bits w 26 24 = found rowMovei (tableMovei .operations) (bits w 26 24) (o .op) (o .at) in
     let p0 : bits w 0 0 ≡ 0 = eqb-true _ _ (h .0) in
@@ -140,7 +140,7 @@ from-J : (w : ℕ) (i : Instruction) → w < 2 ^ 32 → bits w 31 27 ≡ 0b01110
 unfolding readJ asJ write writeJ
 from-J w i b p e =
     let o = listed-is _ (asJ w) _ i e in
-    let t = accepted-is _ _ i (o .is) in
+    let t = guarded-is _ _ i (o .is) in
     let po : rowJ (o .op) .opcode ≡ bits w 26 24 = found rowJ (tableJ .operations) (bits w 26 24) (o .op) (o .at) in
     let n : bits w 17 0 < 262144 = omega arith in
     let pc = truncated-signed (2 ^ 17) (2 ^ 14 - 1) refl (bits w 17 0) n in
@@ -152,7 +152,7 @@ from-C : (w : ℕ) (i : Instruction) → w < 2 ^ 32 → bits w 31 27 ≡ 0b01111
 unfolding readC asC write writeC
 from-C w i b p e =
     let o = listed-is _ (asC w) _ i e in
-    let t = accepted-is _ _ i (o .is) in
+    let t = guarded-is _ _ i (o .is) in
     let h = each (eqb (bits w 11 0) 0 ∷ allowsC (o .op) (bits w 23 18) (bits w 17 12) ∷ []) (t .0) in
     let po : rowC (o .op) .opcode ≡ bits w 26 24 = found rowC (tableC .operations) (bits w 26 24) (o .op) (o .at) in
     let p0 : bits w 11 0 ≡ 0 = eqb-true _ _ (h .0) in
@@ -163,7 +163,7 @@ unfolding readM asM write writeM
 from-M w i b p e =
     let o = listed-is _ (asM w) _ i e in
     let f = scalar-is _ not-fitted _ i (o .is) in
-    let t = accepted-is _ _ i (f .1) in
+    let t = guarded-is _ _ i (f .1) in
     let h = each (eqb (bits w 0 0) 0 ∷ allowsM (o .op) (bits w 23 18) ∷ []) (t .0) in
     let po : rowM (o .op) .opcode ≡ bits w 29 24 = found rowM (tableM .operations) (bits w 29 24) (o .op) (o .at) in
     let p2 : bits w 2 1 ≡ 0 = eqb-true _ _ (f .0) in

@@ -66,14 +66,14 @@ unfoldable pub NotFittedExactly : Type 0
 NotFittedExactly = (w : ℕ) → (read w ≡ refused 8) ↔ (notFitted w ≡ true)
 
 -- Words beside these lines, and what they are read as.
-pub record Row : Type 0 where
+pub record Figure : Type 0 where
   pub word : ℕ
   pub answer : Answer Instruction
 
-abbrev row : ℕ → Answer Instruction → Row
+abbrev row : ℕ → Answer Instruction → Figure
 row word answer = record { word = word; answer = answer }
 
-abbrev pub rows : List Row
+abbrev pub rows : List Figure
 rows =
     -- add and sext8 with l = 1; add also to s63, with bits 5 and 0 set
     row 0x04000010 (refused 8) ∷ row 0x2B000010 (refused 8) ∷ row 0x04FC0031 (refused 8) ∷
@@ -88,7 +88,7 @@ rows =
     -- bit 0 alone; and bit 2 with opcode 3, which M does not name
     row 0x82000001 (refused 7) ∷ row 0x83000004 (refused 7) ∷ []
 
-abbrev pub All : List Row → Type 0
+abbrev pub All : List Figure → Type 0
 All [] = Unit {0}
 All (r ∷ rs) = (read (r .word) ≡ r .answer) × All rs
 

@@ -12,9 +12,9 @@ use Rattle.isa.specs.Test.{all, isIn}
 use Rattle.isa.specs.Types.{Operation, MoveiOp, JumpOp, ControlOp, MemoryOp, Instruction, R, I, Movei, J, C, M}
 
 -- the instruction, where all is as its line says; "What follows no line here is undefined."
-unfoldable pub accepted : Bool → Instruction → Answer Instruction
-accepted true i = given i
-accepted false i = refused undefined
+unfoldable pub guarded : Bool → Instruction → Answer Instruction
+guarded true i = given i
+guarded false i = refused undefined
 
 -- what an opcode's word is read as: by its operation, where the table has one, else by a number
 unfoldable pub listed : {A : Type 0} → Option A → (A → Answer Instruction) → ℕ → Answer Instruction
@@ -27,35 +27,35 @@ listed (some op) f n = f op
 unfoldable pub asR : ℕ → Operation → Answer Instruction
 asR w op =
     cond (eqb (field w bitL) 1) (refused not-fitted)
-    (accepted
+    (guarded
     (all (eqb (field w bit5) 0 ∷ eqb (field w bit0) 0 ∷ allowsR op (field w vectorFlagsR) (field w firstRegister) (field w thirdRegister) ∷ []))
     (R op (field w vectorFlagsR) (field w firstRegister) (field w secondRegister) (field w thirdRegister)))
 
 unfoldable pub asI : ℕ → Operation → Answer Instruction
 asI w op =
-    accepted (all (eqb (field w bit0) 0 ∷ allowsI op (field w vectorFlagsI) (field w firstRegister) ∷ []))
+    guarded (all (eqb (field w bit0) 0 ∷ allowsI op (field w vectorFlagsI) (field w firstRegister) ∷ []))
     (I op (field w vectorFlagsI) (field w firstRegister) (field w secondRegister) (signedField w immediateI))
 
 unfoldable pub asMovei : ℕ → MoveiOp → Answer Instruction
 asMovei w op =
-    accepted (all (eqb (field w bit0) 0 ∷ allowsMovei (field w vectorFlag) (field w firstRegister) ∷ []))
+    guarded (all (eqb (field w bit0) 0 ∷ allowsMovei (field w vectorFlag) (field w firstRegister) ∷ []))
     (Movei op (field w vectorFlag) (field w firstRegister) (field w immediateMovei))
 
 unfoldable pub asJ : ℕ → JumpOp → Answer Instruction
 asJ w op =
-    accepted (allowsJ op (field w firstRegister) (signedField w offsetJ))
+    guarded (allowsJ op (field w firstRegister) (signedField w offsetJ))
     (J op (field w firstRegister) (signedField w offsetJ))
 
 unfoldable pub asC : ℕ → ControlOp → Answer Instruction
 asC w op =
-    accepted (all (eqb (field w lowBitsC) 0 ∷ allowsC op (field w firstRegister) (field w secondRegister) ∷ []))
+    guarded (all (eqb (field w lowBitsC) 0 ∷ allowsC op (field w firstRegister) (field w secondRegister) ∷ []))
     (C op (field w firstRegister) (field w secondRegister))
 
 -- "Bit 2 or 1 set with such an opcode, other bits any: not fitted."
 unfoldable pub asM : ℕ → MemoryOp → Answer Instruction
 asM w op =
     cond (eqb (field w bitsM) 0)
-    (accepted (all (eqb (field w bit0) 0 ∷ allowsM op (field w firstRegister) ∷ []))
+    (guarded (all (eqb (field w bit0) 0 ∷ allowsM op (field w firstRegister) ∷ []))
     (M op (field w firstRegister) (field w secondRegister) (signedField w offsetM)))
     (refused not-fitted)
 

@@ -14,23 +14,23 @@ use Rattle.isa.specs.Types.{MoveiOp, Low, High, Whole, JumpOp, Jmp, Jmps
 use Rattle.isa.specs.Types.{Instruction, R, I, Movei, J, C, M}
 
 -- a row: the opcode of an operation, and its name
-pub record Row : Type 0 where
+pub record OpcodeRow : Type 0 where
   pub opcode : ℕ
   pub name : List ℕ
 
-abbrev pub row : ℕ → String → Row
+abbrev pub row : ℕ → String → OpcodeRow
 row o n = record { opcode = o; name = bytes n }
 
 -- a format's table: the row of each operation, and all its operations
 pub record Table (A : Type 0) : Type 0 where
-  pub rowOf : A → Row
+  pub rowOf : A → OpcodeRow
   pub operations : List A
 
 -- Behind each row its meaning, in registers: `:=` gives the register on its left the value on its right, from what the registers held before. With
 -- vector flags an operation of R, I or MOVEI is done in each lane that is on. The definitions of the meanings: alu, vector, compares, memory, execution.
 
 -- "R"; a compare of vectors is a bit a lane, in the scalar d
-abbrev pub rowR : Operation → Row
+abbrev pub rowR : Operation → OpcodeRow
 rowR (Binary Or) = row 1 "or"  -- d := a | b
 rowR (Binary And) = row 2 "and"  -- d := a & b
 rowR (Binary Xor) = row 3 "xor"  -- d := a ^ b
@@ -76,11 +76,11 @@ not-fitted-opcodes = 33 ∷ 34 ∷ 35 ∷ 36 ∷ 37 ∷ 38 ∷ 39 ∷ 40 ∷ 41 
 
 -- "I: .. Opcodes 1-11 .., 14-23 .., 25 .., as R with the immediate as b. Names end in i." Its opcodes are those of R; which of them have an I word, their
 -- flags say.
-abbrev pub rowI : Operation → Row
+abbrev pub rowI : Operation → OpcodeRow
 rowI op = record { opcode = rowR op .opcode; name = rowR op .name ++ bytes "i" }
 
 -- "MOVEI: .. 0 moveil replaces the low half, 1 moveih the high half, 2 movei sets the value with the high half zero."
-abbrev pub rowMovei : MoveiOp → Row
+abbrev pub rowMovei : MoveiOp → OpcodeRow
 rowMovei Low = row 0 "moveil"  -- the low half of d := immediate
 rowMovei High = row 1 "moveih"  -- the high half of d := immediate
 rowMovei Whole = row 2 "movei"  -- d := immediate
@@ -89,7 +89,7 @@ abbrev pub tableMovei : Table MoveiOp
 tableMovei = record { rowOf = rowMovei; operations = Low ∷ High ∷ Whole ∷ [] }
 
 -- "J: .. 0 jmp, 1 jmpsr .., 2 jret .., 5 beqz, 6 bnez."
-abbrev pub rowJ : JumpOp → Row
+abbrev pub rowJ : JumpOp → OpcodeRow
 rowJ Jmp = row 0 "jmp"  -- s63 := s63 + offset
 rowJ Jmpsr = row 1 "jmpsr"  -- s62 := s63 + 4; s63 := s63 + offset
 rowJ Jret = row 2 "jret"  -- s63 := s62
@@ -100,7 +100,7 @@ abbrev pub tableJ : Table JumpOp
 tableJ = record { rowOf = rowJ; operations = Jmp ∷ Jmpsr ∷ Jret ∷ Beqz ∷ Bnez ∷ [] }
 
 -- "C: .. 0 barrier .. 1 readcr .. 2 end"
-abbrev pub rowC : ControlOp → Row
+abbrev pub rowC : ControlOp → OpcodeRow
 rowC Barrier = row 0 "barrier"  -- wait at barrier first for second + 1 threads
 rowC Readcr = row 1 "readcr"  -- first := the control register with the number second
 rowC End = row 2 "end"  -- the thread ends
@@ -109,7 +109,7 @@ abbrev pub tableC : Table ControlOp
 tableC = record { rowOf = rowC; operations = Barrier ∷ Readcr ∷ End ∷ [] }
 
 -- "M: .. 0 load8, 1 load16 (sign kept), 2 load32, 4 load8u, 5 load16u, 8 loadv, 32 store8, 33 store16, 34 store32, 40 storev."
-abbrev pub rowM : MemoryOp → Row
+abbrev pub rowM : MemoryOp → OpcodeRow
 rowM (Load Load8) = row 0 "load8"  -- register := 1 byte at base + offset, signed
 rowM (Load Load16) = row 1 "load16"  -- register := 2 bytes at base + offset, signed
 rowM (Load Load32) = row 2 "load32"  -- register := 4 bytes at base + offset
@@ -130,7 +130,7 @@ tableM = record {
 }
 
 -- the operation of an opcode among those listed, if one of them has it
-unfoldable pub find : {A : Type 0} → (A → Row) → List A → ℕ → Option A
+unfoldable pub find : {A : Type 0} → (A → OpcodeRow) → List A → ℕ → Option A
 find rowOf [] o = none
 find rowOf (op ∷ ops) o = elim (eqb o (rowOf op .opcode)) [ true ↦ some op | false ↦ find rowOf ops o ]
 

@@ -3,7 +3,7 @@ use Prim.Native.Nat.{ℕ}
 use mathlib.Core.Bool.{Bool, true, false, _&&_}
 use mathlib.Core.List.{List, [], _∷_}
 use Rattle.answer.specs.Answer.{Answer, given, refused, no-word}
-use Rattle.word_layout.specs.Layout.{Part, pack, room, layoutR, layoutI, layoutMovei, layoutJ, layoutC, layoutM, prefixR, prefixI, prefixMovei, prefixJ, prefixC, prefixM, truncated, fits-signed, signBit, immediateI, offsetJ, offsetM}
+use Rattle.word_layout.specs.Layout.{Part, pack, eachFits, layoutR, layoutI, layoutMovei, layoutJ, layoutC, layoutM, prefixR, prefixI, prefixMovei, prefixJ, prefixC, prefixM, truncated, fits-signed, signBit, immediateI, offsetJ, offsetM}
 use Rattle.isa.specs.Rule.{allowsR, allowsI, allowsMovei, allowsJ, allowsC, allowsM}
 use Rattle.isa.specs.Table.{rowR, rowI, rowMovei, rowJ, rowC, rowM}
 use Rattle.isa.specs.Test.{all}
@@ -16,7 +16,7 @@ written false w = refused no-word
 
 -- the word with these numbers in the layout's parts, where they have room and the instruction is allowed
 abbrev pub encoded : Bool → List Part → List ℕ → Answer ℕ
-encoded allowed layout numbers = written (all (allowed ∷ room layout numbers)) (pack layout numbers)
+encoded allowed layout numbers = written (all (allowed ∷ eachFits layout numbers)) (pack layout numbers)
 
 -- The word of an instruction, by format. "Unnamed bits are 0."
 

@@ -9,13 +9,13 @@ use borrow.Author.Tests.{le-leb, eq-eqb, eqb-false}
 use lib.Dec.{eqb}
 use lib.ListN.{length, length-map, List·getD-map}
 use Rattle.bits.specs.Bit.{bit}
-use Rattle.machine.specs.Barrier.{released, release, releaseIfMet, arrive, refusesMeeting, meet}
-use Rattle.machine.specs.Claims.{WellFormed, Sound, Meets}
+use Rattle.machine.specs.Barrier.{released, release, releaseIfMet, arrive, refusesBarrier, reachBarrier}
+use Rattle.machine.specs.Claims.{WellFormed, KeepsRecord, ReachesBarrier}
 use Rattle.machine.specs.Machine.{zeroThread, statusAt, withStatus, withStatusAt, trap}
 use Rattle.machine.specs.Status.{limits, isIdle, isRunning, isWaiting, waitsAt, carriesInRange}
 use Rattle.machine.specs.WellFormed.{waiting, disputed}
 use Rattle.machine.specs.Scheduler.{runs}
-use Rattle.machine.specs.Types.{Status, Idle, Running, Ended, Trapped, Waiting, Machine, Meeting}
+use Rattle.machine.specs.Types.{Status, Idle, Running, Ended, Trapped, Waiting, Machine, BarrierResult}
 use Rattle.machine.proofs.Conditions.{waiting-ranges, undisputed, tested}
 use Rattle.machine.proofs.Meetings.{admitted}
 use Rattle.machine.proofs.Tests.{never}
@@ -189,11 +189,11 @@ module _ (m : Machine) (t id count : ℕ) where
           ⊎-elim (λ x. inl (f ∙ x)) (λ x. inr (subst (Calm (statusAt m u)) (sym f) x)) (released-calm id (statusAt m u))
 
   -- the thread waits, or all that wait there run on
-  arrives : carriesInRange limits (Waiting id count) ≡ true → disputed m t id count ≡ false → Sound m t (arrive m t id count)
+  arrives : carriesInRange limits (Waiting id count) ≡ true → disputed m t id count ≡ false → KeepsRecord m t (arrive m t id count)
   unfolding releaseIfMet
   arrives fine agree = go (eqb (waiting met id) count) refl
     where
-      go : (b : Bool) → eqb (waiting met id) count ≡ b → Sound m t (cond b (release met id) met)
+      go : (b : Bool) → eqb (waiting met id) count ≡ b → KeepsRecord m t (cond b (release met id) met)
       go true h =
           record {
             enabled = release-enabled met id;
@@ -228,11 +228,11 @@ arrives-untrapped m t id count reason l = go (eqb (waiting n id) count)
     go true e = either (eqb id id) (sym (release-status n id t ∙ ap (released id) waits-there) ∙ e)
     go false e = either false (sym waits-there ∙ e)
 
-pub meets : Meets
-unfolding meet
-meets m t id second = go (refusesMeeting m t id second) refl
+pub meets : ReachesBarrier
+unfolding reachBarrier
+meets m t id second = go (refusesBarrier m t id second) refl
   where
-    go : (b : Bool) → refusesMeeting m t id second ≡ b → Sound m t (cond {A = Meeting} b (record { trapped = true; machine = trap m t 5 }) (record { trapped = false; machine = arrive m t id (second + 1) }) .machine)
+    go : (b : Bool) → refusesBarrier m t id second ≡ b → KeepsRecord m t (cond {A = BarrierResult} b (record { trapped = true; machine = trap m t 5 }) (record { trapped = false; machine = arrive m t id (second + 1) }) .machine)
     go true h = traps m t 5 (omega arith) (omega arith)
     go false h =
         let a = admitted m t id second h in

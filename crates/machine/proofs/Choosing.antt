@@ -10,10 +10,10 @@ use lib.Dec.{ltb}
 use Rattle.machine.specs.Claims.{FirstAfterLast, Chooses, ChoosesNone, Turned}
 use Rattle.machine.specs.Machine.{threadNumbers}
 use Rattle.machine.specs.Scheduler.{runs, after, distances, chosenAt, choice, afterChoice, choose}
-use Rattle.machine.specs.Search.{first, bits}
+use Rattle.machine.specs.Search.{first, maskOf}
 use Rattle.machine.specs.Types.{Machine, Chosen, NoneRunning, Turn}
 use Rattle.machine.proofs.Loops.{from}
-use Rattle.machine.proofs.Nearest.{Nowhere, Found, found, lowest, first-at, first-nowhere, bits-lt, bits-nowhere, nowhere-bits, bits-shift, first-lowest, bits-same}
+use Rattle.machine.proofs.Nearest.{Nowhere, Found, found, lowest, first-at, first-nowhere, maskOf-lt, maskOf-nowhere, nowhere-maskOf, maskOf-shift, first-lowest, maskOf-same}
 
 -- the thread at a distance runs
 abbrev pub runsAfter : Machine → ℕ → Bool
@@ -36,31 +36,31 @@ none-runs m h t a b =
 
 -- the mask of the running threads, and what stands ahead of "last" in it
 abbrev pub mask : Machine → ℕ
-mask m = bits (runs m) threadNumbers
+mask m = maskOf (runs m) threadNumbers
 
 pub mask-small : (m : Machine) → mask m ≤ 255
 unfolding from
-mask-small m = let l = bits-lt (runs m) 0 8 in omega arith
+mask-small m = let l = maskOf-lt (runs m) 0 8 in omega arith
 
 abbrev pub ahead : Machine → ℕ
 ahead m = mask m * 257 / 2 ^ (m .last % 8 + 1)
 
-twice : (m : Machine) → mask m * 257 ≡ bits (λ t. runs m (t % 8)) (from 0 16)
-unfolding bits from
+twice : (m : Machine) → mask m * 257 ≡ maskOf (λ t. runs m (t % 8)) (from 0 16)
+unfolding maskOf from
 twice m = omega arith
 
-ahead-bits : (m : Machine) → ahead m ≡ bits (runsAfter m) (from 1 (8 + (7 - m .last % 8)))
-ahead-bits m =
+ahead-maskOf : (m : Machine) → ahead m ≡ maskOf (runsAfter m) (from 1 (8 + (7 - m .last % 8)))
+ahead-maskOf m =
     let l = m .last % 8 in
     let e : 16 ≡ (l + 1) + (8 + (7 - l)) = omega arith in
-    ap (λ x. x / 2 ^ (l + 1)) (twice m ∙ ap (λ n. bits (λ t. runs m (t % 8)) (from 0 n)) e)
-    ∙ (bits-shift (λ t. runs m (t % 8)) (l + 1) 0 (8 + (7 - l))
-    ∙ bits-same (λ t. runs m (t % 8)) (runsAfter m) (0 + (l + 1)) 1 (8 + (7 - l)) (λ j. ap (runs m) (omega arith)))
+    ap (λ x. x / 2 ^ (l + 1)) (twice m ∙ ap (λ n. maskOf (λ t. runs m (t % 8)) (from 0 n)) e)
+    ∙ (maskOf-shift (λ t. runs m (t % 8)) (l + 1) 0 (8 + (7 - l))
+    ∙ maskOf-same (λ t. runs m (t % 8)) (runsAfter m) (0 + (l + 1)) 1 (8 + (7 - l)) (λ j. ap (runs m) (omega arith)))
 
 -- where no bit is set none is chosen, and else the thread of the lowest one
 pub nothing-set : (m : Machine) → mask m ≡ 0 → choice m ≡ NoneRunning
 unfolding from
-nothing-set m h = choice-at m (first-nowhere (runsAfter m) 1 8 (none-after m (bits-nowhere (runs m) 0 8 h)))
+nothing-set m h = choice-at m (first-nowhere (runsAfter m) 1 8 (none-after m (maskOf-nowhere (runs m) 0 8 h)))
 
 unfoldable pub zeros : Machine → ℕ
 zeros m = trailingZeros 32 (ahead m)
@@ -69,12 +69,12 @@ pub one-set : (m : Machine) → (mask m ≡ 0 → ⊥) → (zeros m < 8) × (cho
 unfolding zeros lowest from
 one-set m h =
     go (ltb (zeros m) 8) refl
-    (first-lowest (runsAfter m) 1 8 (7 - m .last % 8) 32 (omega arith) ∙ ap (λ x. lowest 1 8 (trailingZeros 32 x)) (sym (ahead-bits m)))
+    (first-lowest (runsAfter m) 1 8 (7 - m .last % 8) 32 (omega arith) ∙ ap (λ x. lowest 1 8 (trailingZeros 32 x)) (sym (ahead-maskOf m)))
   where
     go : (b : Bool) → ltb (zeros m) 8 ≡ b → first (runsAfter m) (from 1 8) ≡ cond b (some (1 + zeros m)) none
         → (zeros m < 8) × (choice m ≡ Chosen (after m (zeros m + 1)) (zeros m + 1))
     go true e f = (ltb-true (zeros m) 8 e, choice-at m f ∙ ap (λ d. Chosen (after m d) d) (omega arith))
-    go false e f = absurd (h (nowhere-bits (runs m) 0 8 (none-runs m (subst (Found (runsAfter m) 1 8) f (found (runsAfter m) 1 8)))))
+    go false e f = absurd (h (nowhere-maskOf (runs m) 0 8 (none-runs m (subst (Found (runsAfter m) 1 8) f (found (runsAfter m) 1 8)))))
 
 -- The claims.
 

@@ -9,7 +9,7 @@ use borrow.Author.Tests.{le-leb, eqb-true, eq-eqb}
 use lib.ListN.{length, getD, set, length-set, List·getD-eq-default}
 use lib.Seq.{getD-set-same, getD-set-other}
 use Rattle.bits.specs.Bit.{bit}
-use Rattle.machine.specs.Claims.{WellFormed, Sound, Traps, Ends, Issued, RunningEnabled}
+use Rattle.machine.specs.Claims.{WellFormed, KeepsRecord, Traps, Ends, Issued, RunningEnabled}
 use Rattle.machine.specs.Machine.{zeroThread, statusAt, withStatus, withStatusAt, trap, end}
 use Rattle.machine.specs.Status.{limits, isIdle, isRunning, isWaiting, waitsAt, carriesInRange}
 use Rattle.machine.specs.WellFormed.{waiting}
@@ -114,7 +114,7 @@ pub running-thread : (m : Machine) (t : ℕ) → WellFormed m → runs m t ≡ t
 running-thread m t w r = is-thread m (w .entries) t (running-idle (statusAt m t) r)
 
 -- a running thread gets a status that is neither idle nor waiting
-calmed : (m : Machine) (t : ℕ) (s : Status) → isIdle s ≡ false → isWaiting s ≡ false → carriesInRange limits s ≡ true → Sound m t (withStatusAt m t s)
+calmed : (m : Machine) (t : ℕ) (s : Status) → isIdle s ≡ false → isWaiting s ≡ false → carriesInRange limits s ≡ true → KeepsRecord m t (withStatusAt m t s)
 calmed m t s idle waits carried =
     record { enabled = refl; last = refl; running = set-running m t s; well-formed = λ h r. tested limits (withStatusAt m t s) .1 (still (tested limits m .0 h) r) }
   where

@@ -4,7 +4,7 @@ use mathlib.Core.Bool.{Bool, false, _&&_, _||_, not}
 use mathlib.Core.Path.{_≡_}
 use borrow.Author.Tests.{ltb-false}
 use lib.Dec.{ltb, eqb}
-use Rattle.machine.specs.Barrier.{refusesMeeting}
+use Rattle.machine.specs.Barrier.{refusesBarrier}
 use Rattle.machine.specs.Machine.{statusAt}
 use Rattle.machine.specs.Status.{waitsAt, waitsOtherwise}
 use Rattle.machine.specs.WellFormed.{disputed}
@@ -24,8 +24,8 @@ pub record Admitted (m : Machine) (t id second : ℕ) : Type 0 where
   pub second-fits : second ≤ 7
   pub agreed : disputed m t id (second + 1) ≡ false
 
-pub admitted : (m : Machine) (t id second : ℕ) → refusesMeeting m t id second ≡ false → Admitted m t id second
-unfolding refusesMeeting
+pub admitted : (m : Machine) (t id second : ℕ) → refusesBarrier m t id second ≡ false → Admitted m t id second
+unfolding refusesBarrier
 admitted m t id second h =
     let a = neither (ltb 31 id || ltb 7 second) (disputed m t id (second + 1)) h in
     let b = neither (ltb 31 id) (ltb 7 second) (a .0) in

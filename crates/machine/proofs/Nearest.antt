@@ -10,7 +10,7 @@ use lib.Count.{under, trailingZeros}
 use borrow.Author.Tests.{lt-ltb, le-ltb}
 use lib.Dec.{ltb, leb·suc-suc}
 use lib.Pow.{shr-shr}
-use Rattle.machine.specs.Search.{first, bits}
+use Rattle.machine.specs.Search.{first, maskOf}
 use Rattle.machine.proofs.Loops.{from}
 use Rattle.machine.proofs.Tests.{never}
 
@@ -87,81 +87,81 @@ module _ (p : ℕ → Bool) where
       go (some e) f = never (f .0 .passes) (h e (f .0 .after) (f .1))
 
   -- the bits of the answers: one more halved away, none set, and how large they are
-  bits-half : (k n : ℕ) → bits p (from k (suc n)) / 2 ≡ bits p (from (suc k) n)
-  unfolding bits from
-  bits-half k n = go (p k)
+  maskOf-half : (k n : ℕ) → maskOf p (from k (suc n)) / 2 ≡ maskOf p (from (suc k) n)
+  unfolding maskOf from
+  maskOf-half k n = go (p k)
     where
-      go : (b : Bool) → (cond b 1 0 + 2 * bits p (from (suc k) n)) / 2 ≡ bits p (from (suc k) n)
+      go : (b : Bool) → (cond b 1 0 + 2 * maskOf p (from (suc k) n)) / 2 ≡ maskOf p (from (suc k) n)
       go true = omega arith
       go false = omega arith
 
-  bits-odd : (k n : ℕ) → bits p (from k (suc n)) % 2 ≡ cond (p k) 1 0
-  unfolding bits from
-  bits-odd k n = go (p k)
+  maskOf-odd : (k n : ℕ) → maskOf p (from k (suc n)) % 2 ≡ cond (p k) 1 0
+  unfolding maskOf from
+  maskOf-odd k n = go (p k)
     where
-      go : (b : Bool) → (cond b 1 0 + 2 * bits p (from (suc k) n)) % 2 ≡ cond b 1 0
+      go : (b : Bool) → (cond b 1 0 + 2 * maskOf p (from (suc k) n)) % 2 ≡ cond b 1 0
       go true = omega arith
       go false = omega arith
 
-  pub bits-lt : (k n : ℕ) → bits p (from k n) < 2 ^ n
-  unfolding bits from
-  bits-lt k zero = omega arith
-  bits-lt k (suc n) = go (p k) (bits-lt (suc k) n)
+  pub maskOf-lt : (k n : ℕ) → maskOf p (from k n) < 2 ^ n
+  unfolding maskOf from
+  maskOf-lt k zero = omega arith
+  maskOf-lt k (suc n) = go (p k) (maskOf-lt (suc k) n)
     where
-      go : (b : Bool) → bits p (from (suc k) n) < 2 ^ n → cond b 1 0 + 2 * bits p (from (suc k) n) < 2 ^ suc n
+      go : (b : Bool) → maskOf p (from (suc k) n) < 2 ^ n → cond b 1 0 + 2 * maskOf p (from (suc k) n) < 2 ^ suc n
       go true l = omega (arith, pow-succ' 2 n)
       go false l = omega (arith, pow-succ' 2 n)
 
-  pub bits-nowhere : (k n : ℕ) → bits p (from k n) ≡ 0 → Nowhere p k n
-  unfolding bits from
-  bits-nowhere k zero h = λ j a b. absurd (omega arith)
-  bits-nowhere k (suc n) h = go (p k) refl h (bits-nowhere (suc k) n)
+  pub maskOf-nowhere : (k n : ℕ) → maskOf p (from k n) ≡ 0 → Nowhere p k n
+  unfolding maskOf from
+  maskOf-nowhere k zero h = λ j a b. absurd (omega arith)
+  maskOf-nowhere k (suc n) h = go (p k) refl h (maskOf-nowhere (suc k) n)
     where
-      go : (b : Bool) → p k ≡ b → cond b 1 0 + 2 * bits p (from (suc k) n) ≡ 0 → (bits p (from (suc k) n) ≡ 0 → Nowhere p (suc k) n) → Nowhere p k (suc n)
+      go : (b : Bool) → p k ≡ b → cond b 1 0 + 2 * maskOf p (from (suc k) n) ≡ 0 → (maskOf p (from (suc k) n) ≡ 0 → Nowhere p (suc k) n) → Nowhere p k (suc n)
       go true e f rest = absurd (omega arith)
       go false e f rest = none-more k n e (rest (omega arith))
 
-  pub nowhere-bits : (k n : ℕ) → Nowhere p k n → bits p (from k n) ≡ 0
-  unfolding bits from
-  nowhere-bits k zero h = refl
-  nowhere-bits k (suc n) h = rw (h k (omega arith) (omega arith)) (omega (arith, nowhere-bits (suc k) n (λ j a b. h j (omega arith) (omega arith))))
+  pub nowhere-maskOf : (k n : ℕ) → Nowhere p k n → maskOf p (from k n) ≡ 0
+  unfolding maskOf from
+  nowhere-maskOf k zero h = refl
+  nowhere-maskOf k (suc n) h = rw (h k (omega arith) (omega arith)) (omega (arith, nowhere-maskOf (suc k) n (λ j a b. h j (omega arith) (omega arith))))
 
-  trailing-bits : (k n w : ℕ) → trailingZeros (suc w) (bits p (from k (suc n))) ≡ under (cond (p k) 1 0) (trailingZeros w (bits p (from (suc k) n)))
+  trailing-maskOf : (k n w : ℕ) → trailingZeros (suc w) (maskOf p (from k (suc n))) ≡ under (cond (p k) 1 0) (trailingZeros w (maskOf p (from (suc k) n)))
   unfolding trailingZeros
-  trailing-bits k n w = rw (bits-odd k n, bits-half k n)
+  trailing-maskOf k n w = rw (maskOf-odd k n, maskOf-half k n)
 
   -- shifted right by j, the bits start j later
-  pub bits-shift : (j k n : ℕ) → bits p (from k (j + n)) / 2 ^ j ≡ bits p (from (k + j) n)
-  bits-shift zero k n =
+  pub maskOf-shift : (j k n : ℕ) → maskOf p (from k (j + n)) / 2 ^ j ≡ maskOf p (from (k + j) n)
+  maskOf-shift zero k n =
       let e : 0 + n ≡ n = omega arith in
       let f : k + 0 ≡ k = omega arith in
       rw (e, f) (omega arith)
-  bits-shift (suc j) k n =
+  maskOf-shift (suc j) k n =
       let e : suc j + n ≡ suc (j + n) = omega arith in
       let f : k + suc j ≡ suc k + j = omega arith in
       let g : suc j ≡ 1 + j = omega arith in
-      rw (e, f) (ap (λ i. bits p (from k (suc (j + n))) / 2 ^ i) g
-      ∙ (sym (shr-shr (bits p (from k (suc (j + n)))) 1 j) ∙ (ap (λ x. x / 2 ^ j) (bits-half k (j + n)) ∙ bits-shift j (suc k) n)))
+      rw (e, f) (ap (λ i. maskOf p (from k (suc (j + n))) / 2 ^ i) g
+      ∙ (sym (shr-shr (maskOf p (from k (suc (j + n)))) 1 j) ∙ (ap (λ x. x / 2 ^ j) (maskOf-half k (j + n)) ∙ maskOf-shift j (suc k) n)))
 
   -- the search finds the lowest set bit
-  pub first-lowest : (k n r w : ℕ) → n ≤ w → first p (from k n) ≡ lowest k n (trailingZeros w (bits p (from k (n + r))))
+  pub first-lowest : (k n r w : ℕ) → n ≤ w → first p (from k n) ≡ lowest k n (trailingZeros w (maskOf p (from k (n + r))))
   unfolding first from lowest
-  first-lowest k zero r w l = rw (le-ltb (trailingZeros w (bits p (from k (0 + r)))) 0 (omega arith))
+  first-lowest k zero r w l = rw (le-ltb (trailingZeros w (maskOf p (from k (0 + r)))) 0 (omega arith))
   first-lowest k (suc n) r zero l = absurd (omega arith)
   first-lowest k (suc n) r (suc w) l =
       let e : suc n + r ≡ suc (n + r) = omega arith in
-      rw e (go (p k) (first-lowest (suc k) n r w (omega arith)) ∙ sym (ap (lowest k (suc n)) (trailing-bits k (n + r) w)))
+      rw e (go (p k) (first-lowest (suc k) n r w (omega arith)) ∙ sym (ap (lowest k (suc n)) (trailing-maskOf k (n + r) w)))
     where
-      go : (b : Bool) → first p (from (suc k) n) ≡ lowest (suc k) n (trailingZeros w (bits p (from (suc k) (n + r))))
-          → cond b (some k) (first p (from (suc k) n)) ≡ lowest k (suc n) (under (cond b 1 0) (trailingZeros w (bits p (from (suc k) (n + r)))))
+      go : (b : Bool) → first p (from (suc k) n) ≡ lowest (suc k) n (trailingZeros w (maskOf p (from (suc k) (n + r))))
+          → cond b (some k) (first p (from (suc k) n)) ≡ lowest k (suc n) (under (cond b 1 0) (trailingZeros w (maskOf p (from (suc k) (n + r)))))
       go true h = let f : k + 0 ≡ k = omega arith in rw (lt-ltb 0 (suc n) (omega arith), f)
-      go false h = h ∙ lowest-suc k n (trailingZeros w (bits p (from (suc k) (n + r))))
+      go false h = h ∙ lowest-suc k n (trailingZeros w (maskOf p (from (suc k) (n + r))))
 
 -- the same answers from another start
-pub bits-same : (p q : ℕ → Bool) (k i n : ℕ) → ((j : ℕ) → p (k + j) ≡ q (i + j)) → bits p (from k n) ≡ bits q (from i n)
-unfolding bits from
-bits-same p q k i zero h = refl
-bits-same p q k i (suc n) h =
+pub maskOf-same : (p q : ℕ → Bool) (k i n : ℕ) → ((j : ℕ) → p (k + j) ≡ q (i + j)) → maskOf p (from k n) ≡ maskOf q (from i n)
+unfolding maskOf from
+maskOf-same p q k i zero h = refl
+maskOf-same p q k i (suc n) h =
     let a : p k ≡ q i = ap p (omega arith) ∙ (h 0 ∙ ap q (omega arith)) in
-    let b = bits-same p q (suc k) (suc i) n (λ j. ap p (omega arith) ∙ (h (suc j) ∙ ap q (omega arith))) in
+    let b = maskOf-same p q (suc k) (suc i) n (λ j. ap p (omega arith) ∙ (h (suc j) ∙ ap q (omega arith))) in
     rw (a, b)

@@ -6,13 +6,13 @@ use lib.Dec.{ltb, eqb}
 use Rattle.answer.specs.Reason.{barrier-refused}
 use Rattle.machine.specs.Machine.{withStatus, withStatusAt, trap}
 use Rattle.machine.specs.Status.{limits, waitsAt}
-use Rattle.machine.specs.Types.{Status, Running, Waiting, Machine, Meeting}
+use Rattle.machine.specs.Types.{Status, Running, Waiting, Machine, BarrierResult}
 use Rattle.machine.specs.WellFormed.{waiting, disputed}
 
 -- "Id above 31, second value above 7, or another thread waiting there with another count: trap 5."
 -- "0 barrier: id in the first, count less one in the second."
-unfoldable pub refusesMeeting : Machine → ℕ → ℕ → ℕ → Bool
-refusesMeeting m t id second = ltb (limits .barrier) id || ltb 7 second || disputed m t id (second + 1)
+unfoldable pub refusesBarrier : Machine → ℕ → ℕ → ℕ → Bool
+refusesBarrier m t id second = ltb (limits .barrier) id || ltb 7 second || disputed m t id (second + 1)
 
 -- "all of them are running": a status that waited there carries no id and no count any more
 abbrev pub released : ℕ → Status → Status
@@ -31,8 +31,8 @@ abbrev pub arrive : Machine → ℕ → ℕ → ℕ → Machine
 arrive m t id count = releaseIfMet (withStatusAt m t (Waiting id count)) id count
 
 -- a meeting of a thread with two register values, and whether it trapped
-unfoldable pub meet : Machine → ℕ → ℕ → ℕ → Meeting
-meet m t id second =
-    cond (refusesMeeting m t id second)
+unfoldable pub reachBarrier : Machine → ℕ → ℕ → ℕ → BarrierResult
+reachBarrier m t id second =
+    cond (refusesBarrier m t id second)
     (record { trapped = true; machine = trap m t barrier-refused })
     (record { trapped = false; machine = arrive m t id (second + 1) })

@@ -5,7 +5,7 @@ use mathlib.Core.Logic.{_↔_}
 use mathlib.Core.Path.{_≡_}
 use lib.ListN.{length}
 use Rattle.bits.specs.Bit.{bit}
-use Rattle.machine.specs.Barrier.{meet}
+use Rattle.machine.specs.Barrier.{reachBarrier}
 use Rattle.machine.specs.Machine.{statusAt, trap, end, start}
 use Rattle.machine.specs.Scheduler.{runs, after, choice, withLast, afterChoice, choose}
 use Rattle.machine.specs.Status.{limits}
@@ -73,7 +73,7 @@ Issued = (m : Machine) (t : ℕ) → t < 8 → wellFormed m ≡ true → wellFor
 
 -- What the issue of thread t makes of a record m.
 
-pub record Sound (m : Machine) (t : ℕ) (n : Machine) : Type 0 where
+pub record KeepsRecord (m : Machine) (t : ℕ) (n : Machine) : Type 0 where
   pub enabled : n .enabled ≡ m .enabled
   pub last : n .last ≡ m .last
   -- who runs and is not issued stays running
@@ -82,10 +82,10 @@ pub record Sound (m : Machine) (t : ℕ) (n : Machine) : Type 0 where
   pub well-formed : wellFormed m ≡ true → runs m t ≡ true → wellFormed n ≡ true
 
 abbrev pub Traps : Type 0
-Traps = (m : Machine) (t reason : ℕ) → 1 ≤ reason → reason ≤ limits .reason → Sound m t (trap m t reason)
+Traps = (m : Machine) (t reason : ℕ) → 1 ≤ reason → reason ≤ limits .reason → KeepsRecord m t (trap m t reason)
 
 abbrev pub Ends : Type 0
-Ends = (m : Machine) (t : ℕ) → Sound m t (end m t)
+Ends = (m : Machine) (t : ℕ) → KeepsRecord m t (end m t)
 
-abbrev pub Meets : Type 0
-Meets = (m : Machine) (t id second : ℕ) → Sound m t (meet m t id second .machine)
+abbrev pub ReachesBarrier : Type 0
+ReachesBarrier = (m : Machine) (t id second : ℕ) → KeepsRecord m t (reachBarrier m t id second .machine)

@@ -21,6 +21,6 @@ first p [] = none
 first p (x ∷ xs) = cond (p x) (some x) (first p xs)
 
 -- the number whose bits are the answers, the lowest first
-unfoldable pub bits : {A : Type 0} → (A → Bool) → List A → ℕ
-bits p [] = 0
-bits p (x ∷ xs) = cond (p x) 1 0 + 2 * bits p xs
+unfoldable pub maskOf : {A : Type 0} → (A → Bool) → List A → ℕ
+maskOf p [] = 0
+maskOf p (x ∷ xs) = cond (p x) 1 0 + 2 * maskOf p xs

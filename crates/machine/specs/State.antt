@@ -1,4 +1,4 @@
--- What a machine holds: the record, the register room and data memory (document 01, "What a machine holds").
+-- What a machine holds: the record, the register file and data memory (document 01, "What a machine holds").
 use Prim.Native.Nat.{ℕ, _+_, _*_}
 use mathlib.Core.List.{List}
 use Rattle.machine.specs.Types.{Machine}
@@ -12,11 +12,11 @@ abbrev pub state : Machine → List ℕ → List ℕ → State
 state m r d = record { machine = m; registers = r; memory = d }
 
 -- "Thread t (0..7), scalar i at 64t+i; vector i, lane j at 512+1024t+16i+j."
-abbrev pub scalarPlace : ℕ → ℕ → ℕ
-scalarPlace t i = 64 * t + i
+abbrev pub scalarIndex : ℕ → ℕ → ℕ
+scalarIndex t i = 64 * t + i
 
-abbrev pub lanePlace : ℕ → ℕ → ℕ → ℕ
-lanePlace t i j = 512 + 1024 * t + 16 * i + j
+abbrev pub laneIndex : ℕ → ℕ → ℕ → ℕ
+laneIndex t i j = 512 + 1024 * t + 16 * i + j
 
 -- "here s59 is the mask, s63 the program counter, and the rest are plain"
 abbrev pub laneMaskRegister : ℕ

@@ -7,4 +7,4 @@ pub use Rattle.machine.specs.declared.record.Machine.{Machine}
 pub use Rattle.machine.specs.declared.scheduler.Choice.{Choice}
 pub use Rattle.machine.specs.declared.scheduler.Choice.the-variants.{Chosen, NoneRunning}
 pub use Rattle.machine.specs.declared.scheduler.Turn.{Turn}
-pub use Rattle.machine.specs.declared.barrier.Meeting.{Meeting}
+pub use Rattle.machine.specs.declared.barrier.BarrierResult.{BarrierResult}

@@ -1,6 +1,6 @@
 // Meeting at a barrier.
 ghost use mathlib.Core.Path.{_≡_};
-ghost use Rattle.machine.specs.Barrier.{released, release, arrive, refusesMeeting, meet};
+ghost use Rattle.machine.specs.Barrier.{released, release, arrive, refusesBarrier, reachBarrier};
 ghost use Rattle.machine.specs.WellFormed.{waiting, disputed};
 use crate::record::Machine;
 use crate::status::GREATEST_BARRIER;
@@ -9,7 +9,7 @@ use crate::status::waits_at;
 use crate::status::waits_otherwise;
 
 // The record after a meeting, and whether the thread was trapped instead of waiting.
-pub struct Meeting {
+pub struct BarrierResult {
     pub trapped: bool,
     pub machine: Machine,
 }
@@ -76,8 +76,8 @@ impl Machine {
     }
 
     // Whether a meeting traps. The register values are the id, and the count less one.
-    fn refuses_meeting(self, thread: usize, id: u32, second: u32) -> bool
-        ensures { λ r. ⌜ r ≡ refusesMeeting self thread id second ⌝ }
+    fn refuses_barrier(self, thread: usize, id: u32, second: u32) -> bool
+        ensures { λ r. ⌜ r ≡ refusesBarrier self thread id second ⌝ }
     {
         if (GREATEST_BARRIER as u32) < id {
             return true;
@@ -89,17 +89,17 @@ impl Machine {
     }
 
     // A thread meets others at a barrier, or is trapped.
-    pub fn meet(self, thread: usize, id: u32, second: u32) -> Meeting
-        ensures { λ r. ⌜ r ≡ meet self thread id second ⌝ }
+    pub fn reach_barrier(self, thread: usize, id: u32, second: u32) -> BarrierResult
+        ensures { λ r. ⌜ r ≡ reachBarrier self thread id second ⌝ }
     {
-        let trapped = self.refuses_meeting(thread, id, second);
+        let trapped = self.refuses_barrier(thread, id, second);
         if trapped {
-            return Meeting {
+            return BarrierResult {
                 trapped,
                 machine: self.trap(thread, 5),
             };
         }
-        Meeting {
+        BarrierResult {
             trapped,
             machine: self.arrive(thread, id as u8, (second + 1) as u8),
         }

@@ -8,7 +8,7 @@ mod scheduler;
 mod status;
 mod well_formed;
 
-pub use barrier::Meeting;
+pub use barrier::BarrierResult;
 pub use idle::is_idle;
 pub use record::Machine;
 pub use register::LANE_MASK;

@@ -2,7 +2,7 @@
 ghost use mathlib.Core.Path.{_≡_};
 ghost use Rattle.machine.specs.Machine.{threadNumbers};
 ghost use Rattle.machine.specs.Scheduler.{runs, choose, someWaits};
-ghost use Rattle.machine.specs.Search.{bits};
+ghost use Rattle.machine.specs.Search.{maskOf};
 use crate::record::Machine;
 use crate::status::is_running;
 use crate::status::is_waiting;
@@ -22,7 +22,7 @@ pub struct Turn {
 impl Machine {
     // A mask of the running threads.
     fn running_mask(self) -> u32
-        ensures { λ r. ⌜ r ≡ bits (runs self) threadNumbers ⌝ }
+        ensures { λ r. ⌜ r ≡ maskOf (runs self) threadNumbers ⌝ }
     {
         let mut mask: u32 = 0;
         for passed in 0..8 {

@@ -35,7 +35,7 @@ impl Machine {
     }
 
     // The same of any thread: one that does not wait is in order.
-    fn meeting_in_order(self, thread: usize, status: Status) -> bool
+    fn barrier_in_order(self, thread: usize, status: Status) -> bool
         ensures { λ r. ⌜ r ≡ (ifWaiting status (λ id count. not (disputed self thread id count)) && ifWaiting status (λ id count. ltb (waiting self id) count)) ⌝ }
     {
         match status {
@@ -56,7 +56,7 @@ impl Machine {
         let off = is_disabled(self.enabled, thread);
         let idle = is_idle(status);
         let ranges = carries_in_range(status, limits);
-        let meeting = self.meeting_in_order(thread, status);
+        let meeting = self.barrier_in_order(thread, status);
         ranges & (idle == off) & meeting
     }
 

@@ -11,11 +11,11 @@ use lib.Pow.{pow-pos}
 use borrow.Author.Tests.{ltb-true, ltb-false}
 use Rattle.vector.specs.Lanes.{each, lane, isOn}
 use Rattle.vector.proofs.Filling.{tab-lane}
-use Rattle.memory.specs.Attempt.{Attempt, done, trap, onward}
+use Rattle.memory.specs.Attempt.{Attempt, done, fault, onward}
 use Rattle.little_endian.specs.Numbers.{numberAt, withNumber}
 use Rattle.memory.specs.Claims.{LoadAfterStore, LanesAfterStore}
-use Rattle.memory.specs.Operation.{widened, scalarPlace, vectorPlace, changed, load, store, withLanes, storeLanes, lanesAt, gathered, loadLanes}
-use Rattle.memory.specs.Place.{lifted}
+use Rattle.memory.specs.Operation.{widened, scalarPlace, vectorPlace, changed, load, store, withLanes, storeLanes, lanesAt, vectorLoad, loadLanes}
+use Rattle.memory.specs.Place.{biased}
 use Rattle.memory.specs.Types.{Load8, Load16, Load32, Load8u, Load16u}
 use Rattle.little_endian.proofs.Numbers.{kept-number, other-number, back}
 use Rattle.memory.proofs.Claimed.{kept-each, kept-if}
@@ -29,8 +29,8 @@ module _ (size : ℕ) (m : List ℕ) (base offset v : ℕ) (f : ℕ → ℕ) whe
 
   loaded : (p : Attempt ℕ) → scalarPlace size m base offset ≡ p → changed p m (λ a. withNumber size m a v) .answer ≡ done tt
       → onward (scalarPlace size (after p) base offset) (λ a. f (numberAt size (after p) a)) ≡ done (f (v % 2 ^ (8 * size)))
-  loaded (done a) e d = rw (kept-number size m a v, e, back size m a v (within size size (length m) (lifted base offset) e))
-  loaded (trap reason) e d = let z : _≡_ {A = ℕ} 0 1 = cc in absurd (omega arith)
+  loaded (done a) e d = rw (kept-number size m a v, e, back size m a v (within size size (length m) (biased base offset) e))
+  loaded (fault reason) e d = let z : _≡_ {A = ℕ} 0 1 = cc in absurd (omega arith)
 
 -- a number is cut once
 cut-again : (n v : ℕ) → 0 < n → v % n % n ≡ v % n
@@ -102,15 +102,15 @@ module _ (m : List ℕ) (base offset mask : ℕ) (v : List ℕ) (j : ℕ) (h : j
   unfolding lanesAt
   lane-at l a = tab-lane 16 j (λ k. numberAt 4 l (a + 4 * k)) h
 
-  gathered-back : (p : Attempt ℕ) → vectorPlace m base offset ≡ p → changed p m (λ a. withLanes m a mask v) .answer ≡ done tt
-      → lane (gathered (vectorPlace (stored p) base offset) (stored p) .lanes) j
-      ≡ cond (isOn mask j) (lane v j) (lane (gathered p m .lanes) j)
+  vectorLoad-back : (p : Attempt ℕ) → vectorPlace m base offset ≡ p → changed p m (λ a. withLanes m a mask v) .answer ≡ done tt
+      → lane (vectorLoad (vectorPlace (stored p) base offset) (stored p) .lanes) j
+      ≡ cond (isOn mask j) (lane v j) (lane (vectorLoad p m .lanes) j)
   unfolding withLanes
-  gathered-back (done a) e d =
-      let r : a + 64 ≤ length m = within 64 64 (length m) (lifted base offset) e in
+  vectorLoad-back (done a) e d =
+      let r : a + 64 ≤ length m = within 64 64 (length m) (biased base offset) e in
       rw (kept-lanes m a mask v r 16, e, lane-at (withLanes m a mask v) a, lane-at m a) (after-turn m a mask v r 16 j h h b)
-  gathered-back (trap reason) e d = let z : _≡_ {A = ℕ} 0 1 = cc in absurd (omega arith)
+  vectorLoad-back (fault reason) e d = let z : _≡_ {A = ℕ} 0 1 = cc in absurd (omega arith)
 
 pub lanes-after-store : LanesAfterStore
 unfolding loadLanes storeLanes
-lanes-after-store m base offset mask v j d h b = gathered-back m base offset mask v j h b (vectorPlace m base offset) refl d
+lanes-after-store m base offset mask v j d h b = vectorLoad-back m base offset mask v j h b (vectorPlace m base offset) refl d

@@ -13,10 +13,10 @@ use Rattle.vector.specs.Lanes.{each, lane, isOn}
 use Rattle.vector.proofs.Filling.{tab-length}
 use Rattle.alu.proofs.Signed.{value-positive, value-negative}
 use Rattle.little_endian.proofs.Numbers.{kept-number}
-use Rattle.memory.specs.Place.{lifted, place}
-use Rattle.memory.specs.Attempt.{Attempt, done, trap}
+use Rattle.memory.specs.Place.{biased, place}
+use Rattle.memory.specs.Attempt.{Attempt, done, fault}
 use Rattle.little_endian.specs.Numbers.{numberAt, withNumber}
-use Rattle.memory.specs.Operation.{bytesStored, scalarPlace, vectorPlace, changed, load, store, withLanes, storeLanes, lanesAt, gathered, loadLanes}
+use Rattle.memory.specs.Operation.{bytesStored, scalarPlace, vectorPlace, changed, load, store, withLanes, storeLanes, lanesAt, vectorLoad, loadLanes}
 use Rattle.memory.specs.Claims.{AddressIsSum, Figures, Rows, Lengths}
 
 -- two differences that are the same
@@ -34,7 +34,7 @@ same-difference a b c d e = go (ltb a b) refl
 pub address-is-sum : AddressIsSum
 address-is-sum base offset ho = go (leb (2 ^ 31) offset) refl
   where
-    go : (t : Bool) → leb (2 ^ 31) offset ≡ t → subℕ (lifted base offset) (2 ^ 32) ≡ pos base +ℤ value 32 offset
+    go : (t : Bool) → leb (2 ^ 31) offset ≡ t → subℕ (biased base offset) (2 ^ 32) ≡ pos base +ℤ value 32 offset
     go true e =
         rw e (same-difference (base + offset) (2 ^ 32) base (suc (2 ^ 32 - suc offset)) (omega arith))
         ∙ sym (ap (λ z. pos base +ℤ z) (value-negative 32 offset (leb-true (2 ^ 31) offset e) ho))
@@ -64,12 +64,12 @@ kept-if false l m h = refl
 
 kept-changed : (p : Attempt ℕ) (m : List ℕ) (f : ℕ → List ℕ) → ((a : ℕ) → length (f a) ≡ length m) → length (changed p m f .memory) ≡ length m
 kept-changed (done a) m f h = h a
-kept-changed (trap reason) m f h = refl
+kept-changed (fault reason) m f h = refl
 
-sixteen : (p : Attempt ℕ) (m : List ℕ) → length (gathered p m .lanes) ≡ 16
+sixteen : (p : Attempt ℕ) (m : List ℕ) → length (vectorLoad p m .lanes) ≡ 16
 unfolding lanesAt
 sixteen (done a) m = tab-length 16 _
-sixteen (trap reason) m = tab-length 16 _
+sixteen (fault reason) m = tab-length 16 _
 
 pub lengths : Lengths
 unfolding store storeLanes withLanes loadLanes

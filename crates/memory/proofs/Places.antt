@@ -9,9 +9,9 @@ use lib.ListN.{length}
 use borrow.Author.Tests.{leb-true}
 use Rattle.memory.specs.Types.{LoadOp, Load8, Load16, Load32, Load8u, Load16u, StoreOp, Store8, Store16, Store32}
 use Rattle.answer.specs.Reason.{misaligned, outside-memory}
-use Rattle.memory.specs.Attempt.{Attempt, done, trap}
+use Rattle.memory.specs.Attempt.{Attempt, done, fault}
 use Rattle.alu.specs.Word.{negative}
-use Rattle.memory.specs.Place.{lifted, inside, place}
+use Rattle.memory.specs.Place.{biased, inside, place}
 use Rattle.memory.specs.Operation.{bytesLoaded, bytesStored, scalarPlace}
 
 -- the sizes of scalars
@@ -35,8 +35,8 @@ both : (p q : Bool) → p && q ≡ true → (p ≡ true) × (q ≡ true)
 both true q e = (refl, e)
 both false q e = (e, absurd (let z : _≡_ {A = ℕ} 0 1 = cc in omega arith))
 
-pub lifted-lt : (base offset : ℕ) → base < 2 ^ 32 → offset < 2 ^ 32 → lifted base offset < 2 ^ 34
-lifted-lt base offset hb ho = go (negative 32 offset)
+pub biased-lt : (base offset : ℕ) → base < 2 ^ 32 → offset < 2 ^ 32 → biased base offset < 2 ^ 34
+biased-lt base offset hb ho = go (negative 32 offset)
   where
     go : (t : Bool) → base + cond t offset (2 ^ 32 + offset) < 2 ^ 34
     go true = omega arith
@@ -50,11 +50,11 @@ module _ (size room address : ℕ) where
   high-enough e = leb-true (address + size) (2 ^ 32 + room) (both (leb (2 ^ 32) address) (leb (address + size) (2 ^ 32 + room)) e .1)
 
 module _ (alignment size room address : ℕ) where
-  pub when-misaligned : eqb (address % alignment) 0 ≡ false → place alignment size room address ≡ trap misaligned
+  pub when-misaligned : eqb (address % alignment) 0 ≡ false → place alignment size room address ≡ fault misaligned
   unfolding place
   when-misaligned e = rw e
 
-  pub when-outside : eqb (address % alignment) 0 ≡ true → inside size room address ≡ false → place alignment size room address ≡ trap outside-memory
+  pub when-outside : eqb (address % alignment) 0 ≡ true → inside size room address ≡ false → place alignment size room address ≡ fault outside-memory
   unfolding place
   when-outside e f = rw (e, f)
 
@@ -67,12 +67,12 @@ module _ (alignment size room address : ℕ) where
   unfolding place
   within {a} = go (eqb (address % alignment) 0) (inside size room address) refl
     where
-      go : (p q : Bool) → inside size room address ≡ q → cond p (cond q (done (address - 2 ^ 32)) (trap outside-memory)) (trap misaligned) ≡ done a → a + size ≤ room
+      go : (p q : Bool) → inside size room address ≡ q → cond p (cond q (done (address - 2 ^ 32)) (fault outside-memory)) (fault misaligned) ≡ done a → a + size ≤ room
       go true true e f = let g : address - 2 ^ 32 ≡ a = cc in omega (arith, low-enough size room address e, high-enough size room address e)
       go true false e f = absurd (let z : _≡_ {A = ℕ} 0 1 = cc in omega arith)
       go false q e f = absurd (let z : _≡_ {A = ℕ} 0 1 = cc in omega arith)
 
 -- the place of a scalar, from what the code finds for its size
 pub found : {size n : ℕ} {p : Attempt ℕ} (m : List ℕ) (base offset : ℕ)
-    → size ≡ n → p ≡ place size size (length m) (lifted base offset) → scalarPlace n m base offset ≡ p
-found m base offset e f = sym (f ∙ ap (λ (k : ℕ). place k k (length m) (lifted base offset)) e)
+    → size ≡ n → p ≡ place size size (length m) (biased base offset) → scalarPlace n m base offset ≡ p
+found m base offset e f = sym (f ∙ ap (λ (k : ℕ). place k k (length m) (biased base offset)) e)

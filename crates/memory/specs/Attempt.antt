@@ -6,25 +6,25 @@ use Rattle.memory.specs.Types.{Place, Access, Loaded}
 -- a trap has its reason
 pub data Attempt (A : Type 0) : Type 0 where
   done : A → Attempt A
-  trap : ℕ → Attempt A
+  fault : ℕ → Attempt A
 
 -- what is done leads on
 abbrev pub onward : {A B : Type 0} → Attempt A → (A → B) → Attempt B
 onward (done a) f = done (f a)
-onward (trap reason) f = trap reason
+onward (fault reason) f = fault reason
 
 -- The cases of the code's answers.
 abbrev pub ofPlace : Place → Attempt ℕ
 ofPlace (Place.At a) = done a
-ofPlace Place.Misaligned = trap misaligned
-ofPlace Place.Outside = trap outside-memory
+ofPlace Place.Misaligned = fault misaligned
+ofPlace Place.Outside = fault outside-memory
 
 abbrev pub ofAccess : Access → Attempt (Unit {0})
 ofAccess Access.Done = done tt
-ofAccess Access.Misaligned = trap misaligned
-ofAccess Access.Outside = trap outside-memory
+ofAccess Access.Misaligned = fault misaligned
+ofAccess Access.Outside = fault outside-memory
 
 abbrev pub ofLoaded : Loaded → Attempt ℕ
 ofLoaded (Loaded.Value v) = done v
-ofLoaded Loaded.Misaligned = trap misaligned
-ofLoaded Loaded.Outside = trap outside-memory
+ofLoaded Loaded.Misaligned = fault misaligned
+ofLoaded Loaded.Outside = fault outside-memory

@@ -10,31 +10,31 @@ use Rattle.alu.specs.Word.{value}
 use Rattle.vector.specs.Lanes.{lane, isOn}
 use Rattle.memory.specs.Types.{LoadOp, Load8, Load16, Load32, Load8u, Load16u, StoreOp, Store8, Store16, Store32, Sext8, Sext16}
 use Rattle.answer.specs.Reason.{misaligned, outside-memory}
-use Rattle.memory.specs.Attempt.{Attempt, done, trap}
-use Rattle.memory.specs.Place.{lifted, place}
+use Rattle.memory.specs.Attempt.{Attempt, done, fault}
+use Rattle.memory.specs.Place.{biased, place}
 use Rattle.memory.specs.Operation.{bytesLoaded, load, store, storeLanes, loadLanes}
 
 -- "Address is base, read unsigned, plus offset and does not wrap.": the address, less what it is held with, is the signed sum.
 abbrev pub AddressIsSum : Type 0
-AddressIsSum = (base offset : ℕ) → offset < 2 ^ 32 → subℕ (lifted base offset) (2 ^ 32) ≡ pos base +ℤ value 32 offset
+AddressIsSum = (base offset : ℕ) → offset < 2 ^ 32 → subℕ (biased base offset) (2 ^ 32) ≡ pos base +ℤ value 32 offset
 
 -- "Memory 64, load32: address 60 good, 62 reason 1, 64 and -4 reason 2, base 0xFFFFFFFC plus 4 reason 2."
-pub record Row : Type 0 where
+pub record Figure : Type 0 where
   pub base : ℕ
   pub offset : ℕ
   pub place : Attempt ℕ
 
-abbrev row : ℕ → ℕ → Attempt ℕ → Row
+abbrev row : ℕ → ℕ → Attempt ℕ → Figure
 row base offset place = record { base = base; offset = offset; place = place }
 
-abbrev pub figures : List Row
+abbrev pub figures : List Figure
 figures =
-    row 60 0 (done 60) ∷ row 62 0 (trap misaligned) ∷ row 64 0 (trap outside-memory) ∷ row 0 (2 ^ 32 - 4) (trap outside-memory) ∷ row 0 (2 ^ 32 - 2) (trap misaligned)
-    ∷ row 0xFFFFFFFC 4 (trap outside-memory) ∷ []
+    row 60 0 (done 60) ∷ row 62 0 (fault misaligned) ∷ row 64 0 (fault outside-memory) ∷ row 0 (2 ^ 32 - 4) (fault outside-memory) ∷ row 0 (2 ^ 32 - 2) (fault misaligned)
+    ∷ row 0xFFFFFFFC 4 (fault outside-memory) ∷ []
 
-abbrev pub All : List Row → Type 0
+abbrev pub All : List Figure → Type 0
 All [] = Unit {0}
-All (r ∷ rs) = (place (bytesLoaded Load32) (bytesLoaded Load32) 64 (lifted (r .base) (r .offset)) ≡ r .place) × All rs
+All (r ∷ rs) = (place (bytesLoaded Load32) (bytesLoaded Load32) 64 (biased (r .base) (r .offset)) ≡ r .place) × All rs
 
 abbrev pub Figures : Type 0
 Figures = All figures

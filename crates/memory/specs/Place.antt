@@ -4,12 +4,12 @@ use mathlib.Core.Bool.{Bool, cond, _&&_}
 use lib.Dec.{eqb, leb}
 use Rattle.alu.specs.Word.{negative}
 use Rattle.answer.specs.Reason.{misaligned, outside-memory}
-use Rattle.memory.specs.Attempt.{Attempt, done, trap}
+use Rattle.memory.specs.Attempt.{Attempt, done, fault}
 
 -- "Address is base, read unsigned, plus offset and does not wrap." The offset is a signed number, held modulo 2^32.
 -- The address is held with 2^32 added to it, since it may be negative.
-abbrev pub lifted : ℕ → ℕ → ℕ
-lifted base offset = base + cond (negative 32 offset) offset (2 ^ 32 + offset)
+abbrev pub biased : ℕ → ℕ → ℕ
+biased base offset = base + cond (negative 32 offset) offset (2 ^ 32 + offset)
 
 -- whether all of `size` bytes from an address on are in a memory of `length` bytes
 abbrev pub inside : ℕ → ℕ → ℕ → Bool
@@ -21,5 +21,5 @@ inside size length address = leb (2 ^ 32) address && leb (address + size) (2 ^ 3
 unfoldable pub place : ℕ → ℕ → ℕ → ℕ → Attempt ℕ
 place alignment size length address =
     cond (eqb (address % alignment) 0)
-    (cond (inside size length address) (done (address - 2 ^ 32)) (trap outside-memory))
-    (trap misaligned)
+    (cond (inside size length address) (done (address - 2 ^ 32)) (fault outside-memory))
+    (fault misaligned)

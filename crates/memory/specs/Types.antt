@@ -1,4 +1,4 @@
--- The operation types and the types of the answers, under one roof.
+-- The operation types and the types of the answers, in one module.
 pub use Rattle.isa.specs.declared.instruction.LoadOp.{LoadOp}
 pub use Rattle.isa.specs.declared.instruction.LoadOp.the-variants.{Load8, Load16, Load32, Load8u, Load16u}
 pub use Rattle.isa.specs.declared.instruction.StoreOp.{StoreOp}

@@ -4,7 +4,7 @@ ghost use mathlib.Core.Bool.{cond};
 ghost use Prim.Native.Nat.{_+_, _≤_};
 ghost use lib.ListN.{length};
 ghost use Rattle.little_endian.specs.Numbers.{withNumber};
-ghost use Rattle.memory.specs.Operation.{lanesAt, withLanes, loadLanes, ofLanes, outcome, storeLanes};
+ghost use Rattle.memory.specs.Operation.{lanesAt, withLanes, loadLanes, ofLanes, storeResult, storeLanes};
 use crate::bytes::read32;
 use crate::bytes::write32;
 use crate::outcome::Access;
@@ -68,7 +68,7 @@ fn write_lanes(memory: &mut [u8], a: usize, mask: u32, v: [u32; 16])
 }
 
 pub fn store_lanes(memory: &mut [u8], base: u32, offset: u32, mask: u32, v: [u32; 16]) -> Access
-    ensures { λ r. ⌜ outcome r (now (memory .exit)) ≡ storeLanes (now (memory .entry)) base offset mask v ⌝ }
+    ensures { λ r. ⌜ storeResult r (now (memory .exit)) ≡ storeLanes (now (memory .entry)) base offset mask v ⌝ }
 {
     let place = locate(base, offset, ALIGNMENT, SIZE, memory.len());
     match place {

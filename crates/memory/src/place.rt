@@ -3,7 +3,7 @@ ghost use mathlib.Core.Path.{_≡_};
 ghost use Prim.Native.Nat.{_%_, _≤_, _<_, _^_};
 ghost use lib.Dec.{eqb};
 ghost use Rattle.memory.specs.Attempt.{ofPlace};
-ghost use Rattle.memory.specs.Place.{lifted, place};
+ghost use Rattle.memory.specs.Place.{biased, place};
 
 pub enum Place {
     At(usize),
@@ -12,8 +12,8 @@ pub enum Place {
 }
 
 // The address with 2^32 added, so that it is never negative.
-fn lifted(base: u32, offset: u32) -> usize
-    ensures { λ r. ⌜ r ≡ lifted base offset ⌝ }
+fn biased(base: u32, offset: u32) -> usize
+    ensures { λ r. ⌜ r ≡ biased base offset ⌝ }
 {
     if 2147483648 <= offset {
         (base as usize) + (offset as usize)
@@ -38,9 +38,9 @@ fn is_multiple(address: usize, alignment: usize) -> bool
 // The place of `size` bytes in a memory of `length` bytes, at an address that must be a multiple of `alignment`.
 pub fn locate(base: u32, offset: u32, alignment: usize, size: usize, length: usize) -> Place
     requires { ⌜ (0 < alignment) × (size ≤ 64) × (length < 2 ^ 63) ⌝ }
-    ensures { λ r. ⌜ ofPlace r ≡ place alignment size length (lifted base offset) ⌝ }
+    ensures { λ r. ⌜ ofPlace r ≡ place alignment size length (biased base offset) ⌝ }
 {
-    let address = lifted(base, offset);
+    let address = biased(base, offset);
     let multiple = is_multiple(address, alignment);
     let inside = (4294967296 <= address) & (address + size <= 4294967296 + length);
     if !multiple {

@@ -4,7 +4,7 @@ ghost use Prim.Native.Nat.{_+_, _≤_};
 ghost use lib.ListN.{length};
 ghost use Rattle.memory.specs.Attempt.{ofLoaded};
 ghost use Rattle.little_endian.specs.Numbers.{numberAt, withNumber};
-ghost use Rattle.memory.specs.Operation.{bytesLoaded, widened, load, bytesStored, outcome, store};
+ghost use Rattle.memory.specs.Operation.{bytesLoaded, widened, load, bytesStored, storeResult, store};
 use crate::bytes::read8;
 use crate::bytes::read16;
 use crate::bytes::read32;
@@ -78,7 +78,7 @@ fn write(op: StoreOp, memory: &mut [u8], a: usize, value: u32)
 }
 
 pub fn store(op: StoreOp, memory: &mut [u8], base: u32, offset: u32, value: u32) -> Access
-    ensures { λ r. ⌜ outcome r (now (memory .exit)) ≡ store op (now (memory .entry)) base offset value ⌝ }
+    ensures { λ r. ⌜ storeResult r (now (memory .exit)) ≡ store op (now (memory .entry)) base offset value ⌝ }
 {
     let size = bytes_stored(op);
     let place = locate(base, offset, size, size, memory.len());

@@ -11,7 +11,7 @@ use lib.ListN.{length, replicate, set, getD, drop, length-append}
 use lib.Seq.{set-append-seam, drop-cons}
 use Rattle.isa.proofs.Both.{and-left, and-right}
 use Rattle.isa.proofs.Tables.{Finds, finds-R, finds-Movei, finds-J, finds-C, finds-M}
-use Rattle.isa.specs.Table.{Row, Table, find, tableR, tableMovei, tableJ, tableC, tableM, rowR, rowMovei, rowJ, rowC, rowM}
+use Rattle.isa.specs.Table.{OpcodeRow, Table, find, tableR, tableMovei, tableJ, tableC, tableM, rowR, rowMovei, rowJ, rowC, rowM}
 use Rattle.isa.specs.Text.{bytes}
 use Rattle.isa.specs.declared.instruction.Instruction.{Instruction}
 use Rattle.isa.specs.declared.instruction.Instruction.the-variants.{R, I, Movei, J, C, M}
@@ -22,17 +22,17 @@ use Rattle.isa.specs.declared.instruction.ControlOp.{ControlOp}
 use Rattle.isa.specs.declared.instruction.MemoryOp.{MemoryOp}
 use Rattle.names.specs.Name.{nameOf, padded, spelled, extended}
 use Rattle.names.specs.Rows.{rowsFor, rows, named}
-use Rattle.names.specs.declared.name.Row as names
+use Rattle.names.specs.declared.name.NameRow as names
 
 -- rows of another format are passed over
-skip : {A : Type 0} (g f o : ℕ) (t : Table A) (ops : List A) (rest : List names.Row) → eqb f g ≡ false →
+skip : {A : Type 0} (g f o : ℕ) (t : Table A) (ops : List A) (rest : List names.NameRow) → eqb f g ≡ false →
     named (rowsFor g t ops ++ rest) f o ≡ named rest f o
 unfolding named
 skip g f o t [] rest e = refl
 skip g f o t (x ∷ xs) rest e = rw e (skip g f o t xs rest e)
 
 -- the operation that an opcode finds has its name in the row found
-hit : {A : Type 0} (f o : ℕ) (t : Table A) (ops : List A) (rest : List names.Row) (op : A) → find (t .rowOf) ops o ≡ some op →
+hit : {A : Type 0} (f o : ℕ) (t : Table A) (ops : List A) (rest : List names.NameRow) (op : A) → find (t .rowOf) ops o ≡ some op →
     named (rowsFor f t ops ++ rest) f o ≡ spelled (t .rowOf op .name)
 unfolding named find
 hit f o t [] rest op e = let z : _≡_ {A = ℕ} 0 1 = cc in absurd (omega arith)
@@ -45,8 +45,8 @@ hit {A} f o t (x ∷ xs) rest op e = by (eqb o (t .rowOf x .opcode)) refl e (hit
     by false h g later = rw (eq-eqb f f refl, h) (later g)
 
 -- the row at a place: its name, where it is of the format and the opcode; else the rows behind it
-module _ (rs : List names.Row) (f o k : ℕ) (h : k < length rs) where
-  abbrev row : names.Row
+module _ (rs : List names.NameRow) (f o k : ℕ) (h : k < length rs) where
+  abbrev row : names.NameRow
   row = getD rs k (0, 0, 0, [])
 
   pub here : (eqb f (row .0) && eqb o (row .1)) ≡ true → named (drop k rs) f o ≡ record { bytes = row .3; len = row .2 }
@@ -97,7 +97,7 @@ every : {A : Type 0} → (A → Bool) → List A → Bool
 every p [] = true
 every p (op ∷ ops) = p op && every p ops
 
-passes : {A : Type 0} (p : A → Bool) (rowOf : A → Row) (ops : List A) (o : ℕ) (op : A) → every p ops ≡ true → find rowOf ops o ≡ some op → p op ≡ true
+passes : {A : Type 0} (p : A → Bool) (rowOf : A → OpcodeRow) (ops : List A) (o : ℕ) (op : A) → every p ops ≡ true → find rowOf ops o ≡ some op → p op ≡ true
 unfolding every find
 passes p rowOf [] o op t e = let z : _≡_ {A = ℕ} 0 1 = cc in absurd (omega arith)
 passes {A} p rowOf (x ∷ xs) o op t e =

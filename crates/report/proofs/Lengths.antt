@@ -9,9 +9,9 @@ use lib.ListN.{length}
 use Rattle.isa.specs.Text.{bytes}
 use Rattle.text.proofs.Lengths.{decimal-small}
 use Rattle.text.specs.Buffer.{wrote, writes}
-use Rattle.thread_lines.proofs.Lengths.{total, length-joined, threads-small}
+use Rattle.thread_lines.proofs.Lengths.{total, length-concat, threads-small}
 use Rattle.thread_lines.proofs.Parts.{puts-whole}
-use Rattle.thread_lines.specs.Text.{joined, putsAll}
+use Rattle.thread_lines.specs.Text.{concat, putsAll}
 use Rattle.report.specs.Report.{counted, bodyParts}
 use Rattle.report.specs.Types.{Machine}
 
@@ -29,7 +29,7 @@ body-small word issues m registers h = omega (arith, h, decimal-small issues, co
 
 -- a text whose first word is short has room
 pub body-whole : (l word : List ℕ) (issues : ℕ) (m : Machine) (registers : List ℕ) → length l ≡ 733 → length word ≤ 7 →
-    putsAll (wrote 0 l) (bodyParts word issues m registers) ≡ writes l 0 (joined (bodyParts word issues m registers))
+    putsAll (wrote 0 l) (bodyParts word issues m registers) ≡ writes l 0 (concat (bodyParts word issues m registers))
 body-whole l word issues m registers e h =
     let parts = bodyParts word issues m registers in
-    puts-whole l parts (omega (arith, e, length-joined parts, body-small word issues m registers h))
+    puts-whole l parts (omega (arith, e, length-concat parts, body-small word issues m registers h))

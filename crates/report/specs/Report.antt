@@ -6,7 +6,7 @@ use lib.Dec.{eqb}
 use Rattle.isa.specs.Text.{bytes}
 use Rattle.text.specs.Number.{decimal}
 use Rattle.thread_lines.specs.Lines.{threadParts}
-use Rattle.thread_lines.specs.Text.{joined}
+use Rattle.thread_lines.specs.Text.{concat}
 use Rattle.report.specs.Types.{RunAnswer, Stopped, Stuck, Spent, RunRefused, Run, Machine}
 
 -- what is counted, behind the number
@@ -25,4 +25,4 @@ reportParts (RunRefused number) issues m registers = []
 
 -- nothing is printed of a refused run
 unfoldable pub report : Run → List ℕ → List ℕ
-report run registers = joined (reportParts (run .answer) (run .issues) (run .machine) registers)
+report run registers = concat (reportParts (run .answer) (run .issues) (run .machine) registers)

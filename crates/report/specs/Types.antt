@@ -1,4 +1,4 @@
--- The types of the crates below, under one roof.
+-- The types of the crates below, in one module.
 pub use Rattle.interpreter.specs.declared.outcome.RunAnswer.{RunAnswer}
 pub use Rattle.interpreter.specs.declared.outcome.RunAnswer.the-variants.{Stopped, Stuck, Spent, Refused as RunRefused}
 pub use Rattle.interpreter.specs.declared.outcome.Run.{Run}

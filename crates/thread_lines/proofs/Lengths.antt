@@ -12,7 +12,7 @@ use Rattle.text.specs.Number.{decimal}
 use Rattle.machine.specs.Machine.{statusAt}
 use Rattle.machine.specs.Status.{isIdle}
 use Rattle.thread_lines.specs.Lines.{programCounter, reason, stateParts, lineParts, linesParts, offPart, offParts, offLine, threadParts}
-use Rattle.thread_lines.specs.Text.{joined, counter}
+use Rattle.thread_lines.specs.Text.{concat, counter}
 use Rattle.thread_lines.specs.Types.{Machine, Status, Idle, Running, Ended, Trapped, Waiting}
 
 -- the bytes of all parts
@@ -20,10 +20,10 @@ abbrev pub total : List (List ℕ) → ℕ
 total [] = 0
 total (part ∷ parts) = length part + total parts
 
-pub length-joined : (parts : List (List ℕ)) → length (joined parts) ≡ total parts
-unfolding joined
-length-joined [] = refl
-length-joined (part ∷ parts) = length-append part (joined parts) ∙ ap (λ (n : ℕ). length part + n) (length-joined parts)
+pub length-concat : (parts : List (List ℕ)) → length (concat parts) ≡ total parts
+unfolding concat
+length-concat [] = refl
+length-concat (part ∷ parts) = length-append part (concat parts) ∙ ap (λ (n : ℕ). length part + n) (length-concat parts)
 
 pub total-append : (parts more : List (List ℕ)) → total (parts ++ more) ≡ total parts + total more
 total-append [] more = omega arith

@@ -6,7 +6,7 @@ use native.Mathlib.Omega.{arith}
 use lib.ListN.{length, length-append}
 use Rattle.text.proofs.Placing.{puts-fits, writes-none}
 use Rattle.text.specs.Buffer.{Wrote, wrote, writes, puts}
-use Rattle.thread_lines.specs.Text.{joined, putsAll}
+use Rattle.thread_lines.specs.Text.{concat, putsAll}
 
 puts-append : (w : Wrote) (us ts : List (List ℕ)) → putsAll (putsAll w us) ts ≡ putsAll w (us ++ ts)
 puts-append w [] ts = refl
@@ -16,14 +16,14 @@ puts-append w (u ∷ us) ts = puts-append (puts w u) us ts
 pub after : (w : Wrote) {w₁ w₂ : Wrote} (us ts : List (List ℕ)) → w₁ ≡ putsAll w us → w₂ ≡ putsAll w₁ ts → w₂ ≡ putsAll w (us ++ ts)
 after w us ts e f = f ∙ ap (λ (x : Wrote). putsAll x ts) e ∙ puts-append w us ts
 
-puts-more : (l : List ℕ) (at : ℕ) (t : List ℕ) (ts : List (List ℕ)) → at + length (t ++ joined ts) ≤ length l → putsAll (writes l at t) ts ≡ writes l at (t ++ joined ts)
-unfolding joined
+puts-more : (l : List ℕ) (at : ℕ) (t : List ℕ) (ts : List (List ℕ)) → at + length (t ++ concat ts) ≤ length l → putsAll (writes l at t) ts ≡ writes l at (t ++ concat ts)
+unfolding concat
 puts-more l at t [] fits = rw (append-nil t)
 puts-more l at t (u ∷ ts) fits =
-    let h : at + length t + length u ≤ length l = omega (arith, length-append t (u ++ joined ts), length-append u (joined ts)) in
-    let g : at + length (t ++ u ++ joined ts) ≤ length l = rw (append-assoc t u (joined ts)) fits in
-    ap (λ (x : Wrote). putsAll x ts) (puts-fits l at t u h) ∙ puts-more l at (t ++ u) ts g ∙ rw (append-assoc t u (joined ts))
+    let h : at + length t + length u ≤ length l = omega (arith, length-append t (u ++ concat ts), length-append u (concat ts)) in
+    let g : at + length (t ++ u ++ concat ts) ≤ length l = rw (append-assoc t u (concat ts)) fits in
+    ap (λ (x : Wrote). putsAll x ts) (puts-fits l at t u h) ∙ puts-more l at (t ++ u) ts g ∙ rw (append-assoc t u (concat ts))
 
 -- parts that have room at the start
-pub puts-whole : (l : List ℕ) (ts : List (List ℕ)) → length (joined ts) ≤ length l → putsAll (wrote 0 l) ts ≡ writes l 0 (joined ts)
+pub puts-whole : (l : List ℕ) (ts : List (List ℕ)) → length (concat ts) ≤ length l → putsAll (wrote 0 l) ts ≡ writes l 0 (concat ts)
 puts-whole l ts fits = ap (λ (x : Wrote). putsAll x ts) (writes-none l 0) ∙ puts-more l 0 [] ts (omega arith)

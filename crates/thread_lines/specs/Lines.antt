@@ -6,7 +6,7 @@ use lib.Dec.{eqb}
 use lib.ListN.{getD}
 use Rattle.isa.specs.Text.{bytes}
 use Rattle.machine.specs.Machine.{statusAt}
-use Rattle.machine.specs.State.{scalarPlace, programCounterRegister}
+use Rattle.machine.specs.State.{scalarIndex, programCounterRegister}
 use Rattle.machine.specs.Status.{isIdle}
 use Rattle.text.specs.Number.{decimal}
 use Rattle.thread_lines.specs.Text.{counter}
@@ -14,7 +14,7 @@ use Rattle.thread_lines.specs.Types.{Machine, Status, Idle, Running, End
 
 -- "s63 the program counter"
 abbrev pub programCounter : List ℕ → ℕ → ℕ
-programCounter registers t = getD registers (scalarPlace t programCounterRegister) 0
+programCounter registers t = getD registers (scalarIndex t programCounterRegister) 0
 
 -- The reasons of a trap, 1 to 6 (document 01, "One issue", "The words" and "Meeting at a barrier"). 6 is also given for a control
 -- register that the core has not.

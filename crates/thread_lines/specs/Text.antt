@@ -7,9 +7,9 @@ use Rattle.text.specs.Buffer.{Wrote, puts}
 use Rattle.text.specs.Number.{hex}
 
 -- the parts, one behind the other
-unfoldable pub joined : List (List ℕ) → List ℕ
-joined [] = []
-joined (part ∷ parts) = part ++ joined parts
+unfoldable pub concat : List (List ℕ) → List ℕ
+concat [] = []
+concat (part ∷ parts) = part ++ concat parts
 
 -- the parts put into a buffer, each where the last one ended
 abbrev pub putsAll : Wrote → List (List ℕ) → Wrote

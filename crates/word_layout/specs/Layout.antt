@@ -36,10 +36,10 @@ pack (p ∷ ps) [] = 0
 pack (p ∷ ps) (v ∷ vs) = v * 2 ^ (p .low) + pack ps vs
 
 -- whether each number has room in its part
-abbrev pub room : List Part → List ℕ → List Bool
-room [] vs = []
-room (p ∷ ps) [] = []
-room (p ∷ ps) (v ∷ vs) = ltb v (2 ^ width p) ∷ room ps vs
+abbrev pub eachFits : List Part → List ℕ → List Bool
+eachFits [] vs = []
+eachFits (p ∷ ps) [] = []
+eachFits (p ∷ ps) (v ∷ vs) = ltb v (2 ^ width p) ∷ eachFits ps vs
 
 -- Parts that several formats have: the registers, which R calls d, a and b, and bit 0, which no format names.
 abbrev pub firstRegister : Part

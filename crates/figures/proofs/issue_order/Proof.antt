@@ -1,4 +1,4 @@
--- `issue_order` is safe: the room and the memory keep their lengths.
+-- `issue_order` is safe: the registers and the memory keep their lengths.
 use Prim.Native.Nat.{_-_, _≤_}
 use mathlib.Core.Path.{_≡_}
 use borrow.Author.Needs.{needs}

@@ -1,4 +1,4 @@
--- `say_lanes` is safe: all sixteen lanes are in the room.
+-- `say_lanes` is safe: all sixteen lanes are in the registers.
 use Prim.Native.Nat.{_-_, _≤_}
 use borrow.Author.Needs.{needs}
 use Rattle.figures.proofs.say_lanes.Statement.{statement}

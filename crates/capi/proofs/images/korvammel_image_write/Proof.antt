@@ -1,7 +1,7 @@
 -- `korvammel_image_write` meets its contract: by the verdict.
 use mathlib.Core.Path.{sym, ap, _∙_}
 use lib.ListN.{length}
-use Rattle.answer.specs.Refusal.{fixedPart, numbered, sizeChecks, sizesNumber}
+use Rattle.answer.specs.Refusal.{fixedPart, numberOf, sizeChecks, sizesNumber}
 use Rattle.machine.specs.State.{state}
 use Rattle.image.proofs.Openings.{opening-well-formed}
 use Rattle.image.proofs.Refusals.{write-taken}
@@ -34,7 +34,7 @@ returns-2 c =
     let z = c .before .before .before .before .before .before .before .before .before .sizes-verdict .ensures in
     let b = c .before .before .before .before .before .before .before .before .read-record .ensures in
     let f = c .before .before .before .before .before .before .first-refusal .ensures in
-    let h = sym f ∙ ap numbered (c .before .before .before .before .enum-told .given .1) in
+    let h = sym f ∙ ap numberOf (c .before .before .before .before .enum-told .given .1) in
     let e = f ∙ in-order k (a .bytes .now) _ r z b in
     let s = state (machineIn noBlocks (a .bytes .now)) (a .registers .now) (a .memory .now) in
     let w = c .before .before .write .ensures ∙ ap (λ m. write (state m (a .registers .now) (a .memory .now)) (a .buffer .now)) (machine-is k (a .bytes .now) _ r z b h) in

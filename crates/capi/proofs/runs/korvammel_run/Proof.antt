@@ -2,7 +2,7 @@
 use mathlib.Core.List.{[], _∷_}
 use mathlib.Core.Path.{sym, ap, _∙_}
 use lib.ListN.{length}
-use Rattle.answer.specs.Refusal.{numbered}
+use Rattle.answer.specs.Refusal.{numberOf}
 use Rattle.machine.specs.State.{state}
 use Rattle.interpreter.specs.Run.{run}
 use Rattle.answer.specs.Refusal.{lengthChecks, lengthsNumber}
@@ -32,7 +32,7 @@ returns-2 c =
     let z = c .before .before .before .before .before .before .before .before .before .before .before .before .before .before .before .before .before .before .lengths-verdict .ensures in
     let b = c .before .before .before .before .before .before .before .before .before .before .before .before .before .before .before .before .read-record .ensures in
     let f = c .before .before .before .before .before .before .before .before .before .before .before .before .before .before .first-refusal .ensures in
-    let h = sym f ∙ ap numbered (c .before .before .before .before .before .before .before .before .before .before .before .before .enum-told .given .1) in
+    let h = sym f ∙ ap numberOf (c .before .before .before .before .before .before .before .before .before .before .before .before .enum-told .given .1) in
     let e = f ∙ in-order k (a .bytes .now) _ r z b in
     let m = machine-is k (a .bytes .now) _ r z b h in
     let o = c .before .before .before .before .before .before .before .before .before .run .ensures ∙ ap (λ m. run (a .program .now) (a .budget) (state m (a .registers .now) (a .memory .now))) m in

@@ -15,7 +15,7 @@ returns-3 c = let e = c .before .enum-told2 .given .1 in record { left = λ memo
 returns-4 : tie.Need-returns-4
 returns-4 c =
     let e = c .before .before .before .before .before .effect2 .given .1 in
-    let met = c .before .before .meet .ensures in
+    let met = c .before .before .reach-barrier .ensures in
     record { left = λ memory. rw (e, met .0, met .1); told = rw e }
 
 pub settle-spec : {M : Type 1} → statement M

@@ -13,7 +13,7 @@ returns c =
     let sum = test .before .before .wrapping-add-u32 in
     let a = test .before .before .before .before .args in
     rw (
-      ← wrapped (a .context) (a .room .now) (linked (a .context) (a .room .now)) (a .offset) (search needs) (search needs) (search needs),
+      ← wrapped (a .context) (a .regs .now) (linked (a .context) (a .regs .now)) (a .offset) (search needs) (search needs) (search needs),
       ← sum .ensures,
       ← test .before .in-program .ensures,
       test .if1 .taken,
@@ -26,7 +26,7 @@ unfolding jumpTo
 returns-2 c =
     let a = c .before .before .before .before .args in
     rw (
-      ← wrapped (a .context) (a .room .now) (linked (a .context) (a .room .now)) (a .offset) (search needs) (search needs) (search needs),
+      ← wrapped (a .context) (a .regs .now) (linked (a .context) (a .regs .now)) (a .offset) (search needs) (search needs) (search needs),
       ← c .before .before .wrapping-add-u32 .ensures,
       ← c .before .in-program .ensures,
       c .if1 .left,

@@ -1,20 +1,20 @@
--- `registers::set_vector` meets its contract: step j writes lane j at its place in the room.
+-- `registers::set_vector` meets its contract: step j writes lane j at its place in the registers.
 use mathlib.Core.Path.{refl}
 use Prim.Native.Nat.{_-_}
 use borrow.Author.Needs.{needs}
 use lib.ListN.{set, length-set}
 use Rattle.vector.specs.Lanes.{lane}
 use Rattle.execution.specs.Registers.{withVector}
-use Rattle.machine.specs.State.{lanePlace}
+use Rattle.machine.specs.State.{laneIndex}
 use Rattle.memory.proofs.Stepping.{Stepping, start, more, whole}
 use Rattle.execution.proofs.registers.set_vector.Statement.{statement}
 use Rattle.execution.proofs.registers.set_vector.Tie as tie
 
 abbrev Inv-loop : tie.InvT-loop
-Inv-loop room₀ t i v first j₀ room j = Stepping 16 (λ k l. set l (lanePlace t i k) (lane v k)) room₀ room j
+Inv-loop regs₀ t i v first j₀ regs j = Stepping 16 (λ k l. set l (laneIndex t i k) (lane v k)) regs₀ regs j
 
 abbrev μ-loop : tie.MeasureT-loop
-μ-loop room₀ t i v first j₀ room j = 16 - j
+μ-loop regs₀ t i v first j₀ regs j = 16 - j
 
 loop-again : tie.Need-loop-again Inv-loop μ-loop
 loop-again c = more (c .before .loop .inv) (search needs) (simp length-set) refl

@@ -1,19 +1,19 @@
--- `registers::vector` meets its contract: lane j is filled from its place in the room.
+-- `registers::vector` meets its contract: lane j is filled from its place in the registers.
 use mathlib.Core.Path.{refl}
 use Prim.Native.Nat.{_-_}
 use borrow.Author.Needs.{needs}
 use lib.ListN.{getD}
 use Rattle.vector.proofs.Filling.{Filling, start, more, whole}
 use Rattle.execution.specs.Registers.{vector}
-use Rattle.machine.specs.State.{lanePlace}
+use Rattle.machine.specs.State.{laneIndex}
 use Rattle.execution.proofs.registers.vector.Statement.{statement}
 use Rattle.execution.proofs.registers.vector.Tie as tie
 
 abbrev Inv-loop : tie.InvT-loop
-Inv-loop room t i first v₀ j₀ v j = Filling 16 (λ k. getD room (lanePlace t i k) 0) v j
+Inv-loop regs t i first v₀ j₀ v j = Filling 16 (λ k. getD regs (laneIndex t i k) 0) v j
 
 abbrev μ-loop : tie.MeasureT-loop
-μ-loop room t i first v₀ j₀ v j = 16 - j
+μ-loop regs t i first v₀ j₀ v j = 16 - j
 
 loop-again : tie.Need-loop-again Inv-loop μ-loop
 loop-again c = more (c .before .before .loop .inv) (search needs) refl

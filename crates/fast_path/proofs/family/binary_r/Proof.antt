@@ -12,7 +12,7 @@ returns-2 c memory pc enabled words =
     let a = f .args in
     let low = sym (test .before .flags-r .ensures) ∙ test .if1 .left in
     rw (c .binary .ensures, c .before .operand-b .ensures, c .before .before .operand-a .ensures)
-    (binary-R (a .t) (a .room .now) (a .w) (a .op) (f .pre .1) low memory pc enabled words)
+    (binary-R (a .t) (a .regs .now) (a .w) (a .op) (f .pre .1) low memory pc enabled words)
 
 pub binary-r-spec : {M : Type 1} → statement M
 binary-r-spec =

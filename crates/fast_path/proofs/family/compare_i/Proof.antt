@@ -17,7 +17,7 @@ returns-2 c memory pc enabled words =
       c .before .before .short-signed .ensures,
       c .before .before .before .operand-a .ensures,
     )
-    (compare-I (a .t) (a .room .now) (a .w) (a .op) (f .pre .1) low memory pc enabled words)
+    (compare-I (a .t) (a .regs .now) (a .w) (a .op) (f .pre .1) low memory pc enabled words)
 
 pub compare-i-spec : {M : Type 1} → statement M
 compare-i-spec =

@@ -17,7 +17,7 @@ returns-2 c memory pc enabled words =
       c .before .before .operand-b .ensures,
       c .before .before .before .operand-a .ensures,
     )
-    (compare-R (a .t) (a .room .now) (a .w) (a .op) (f .pre .1) low memory pc enabled words)
+    (compare-R (a .t) (a .regs .now) (a .w) (a .op) (f .pre .1) low memory pc enabled words)
 
 pub compare-r-spec : {M : Type 1} → statement M
 compare-r-spec =

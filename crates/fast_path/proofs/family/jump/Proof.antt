@@ -18,7 +18,7 @@ returns c memory pc enabled words =
     let f = read .before .before .before .before in
     let a = f .args in
     rw (read .long-signed .ensures)
-    (jumps (a .t) (a .room .now) (a .w) Jmp (rw (told .enum-told .given .1) at (f .pre .1))
+    (jumps (a .t) (a .regs .now) (a .w) Jmp (rw (told .enum-told .given .1) at (f .pre .1))
     (eq-eqb _ 0 (sym (read .before .before .register .ensures) ∙ c .if1 .taken)) memory pc enabled words)
 
 -- beqz and bnez
@@ -29,8 +29,8 @@ returns-5 c memory pc enabled words =
     let f = read .before .before .before .before in
     let a = f .args in
     rw (c .branch .ensures, read .long-signed .ensures, read .before .operand-d .ensures)
-    (branches (a .t) (a .room .now) (a .w) (eqb (scalar (a .room .now) (a .t) (bits (a .w) 23 18)) 0) memory pc enabled words
-    (jumps (a .t) (a .room .now) (a .w) Beqz (rw (told .enum-told4 .given .1) at (f .pre .1)) refl memory pc enabled words))
+    (branches (a .t) (a .regs .now) (a .w) (eqb (scalar (a .regs .now) (a .t) (bits (a .w) 23 18)) 0) memory pc enabled words
+    (jumps (a .t) (a .regs .now) (a .w) Beqz (rw (told .enum-told4 .given .1) at (f .pre .1)) refl memory pc enabled words))
 
 returns-6 : tie.Need-returns-6
 returns-6 c memory pc enabled words =
@@ -39,8 +39,8 @@ returns-6 c memory pc enabled words =
     let f = read .before .before .before .before in
     let a = f .args in
     rw (c .branch2 .ensures, read .long-signed .ensures, read .before .operand-d .ensures)
-    (branches (a .t) (a .room .now) (a .w) (not (eqb (scalar (a .room .now) (a .t) (bits (a .w) 23 18)) 0)) memory pc enabled words
-    (jumps (a .t) (a .room .now) (a .w) Bnez (rw (told .enum-told5 .given .1) at (f .pre .1)) refl memory pc enabled words))
+    (branches (a .t) (a .regs .now) (a .w) (not (eqb (scalar (a .regs .now) (a .t) (bits (a .w) 23 18)) 0)) memory pc enabled words
+    (jumps (a .t) (a .regs .now) (a .w) Bnez (rw (told .enum-told5 .given .1) at (f .pre .1)) refl memory pc enabled words))
 
 pub jump-spec : {M : Type 1} → statement M
 jump-spec =

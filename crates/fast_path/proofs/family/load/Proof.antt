@@ -12,7 +12,7 @@ returns-2 c pc enabled words =
     let test = called .before .before .before in
     let f = test .before .before .before .before in
     let a = f .args in
-    loads (a .t) (a .room .now) (a .w) (a .op) (f .pre .1) (sym (test .before .flags-i .ensures) ∙ test .if1 .left) (a .memory .now) _
+    loads (a .t) (a .regs .now) (a .w) (a .op) (f .pre .1) (sym (test .before .flags-i .ensures) ∙ test .if1 .left) (a .memory .now) _
     (rw (← called .before .before .operand-a .ensures, ← called .before .short-signed .ensures)
     (sym (called .load .ensures) ∙ ap ofLoaded (c .before .x .given .1)))
     pc enabled words

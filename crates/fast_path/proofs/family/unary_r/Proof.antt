@@ -10,7 +10,7 @@ returns-2 c memory pc enabled words =
     let f = test .before .before in
     let a = f .args in
     rw (c .unary .ensures, c .before .operand-a .ensures)
-    (unary-R (a .t) (a .room .now) (a .w) (a .op) (f .pre .1) (test .if1 .left) memory pc enabled words)
+    (unary-R (a .t) (a .regs .now) (a .w) (a .op) (f .pre .1) (test .if1 .left) memory pc enabled words)
 
 pub unary-r-spec : {M : Type 1} → statement M
 unary-r-spec =

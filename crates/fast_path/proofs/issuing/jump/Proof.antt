@@ -15,7 +15,7 @@ returns c enabled =
     let a = f .args in
     rw (
       c .before .before .set-scalar .ensures,
-      ← wrapped (context (a .t) (a .pc) enabled (a .words)) (a .room .now) (a .room .now) (a .offset) (f .pre .1) (f .pre .2) (search needs),
+      ← wrapped (context (a .t) (a .pc) enabled (a .words)) (a .regs .now) (a .regs .now) (a .offset) (f .pre .1) (f .pre .2) (search needs),
       ← sum .ensures,
       ← test .before .in-program .ensures,
       test .if1 .taken,

@@ -14,7 +14,7 @@ returns-2 c enabled words =
     let f = test .before .before .before .before in
     let a = f .args in
     rw (c .before .before .advance .ensures)
-    (stores (a .t) (a .room .now) (a .w) (a .op) (f .pre .2) (sym (test .before .flags-i .ensures) ∙ test .if1 .left) (a .memory .now) _
+    (stores (a .t) (a .regs .now) (a .w) (a .op) (f .pre .2) (sym (test .before .flags-i .ensures) ∙ test .if1 .left) (a .memory .now) _
     (rw (← read .short-signed .ensures, ← read .before .operand-d .ensures, ← read .before .before .before .operand-a .ensures)
     (rw (told .enum-told .given .1) at (called .store .ensures)))
     (a .pc) enabled words)

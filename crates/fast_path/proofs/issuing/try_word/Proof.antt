@@ -15,14 +15,14 @@ scalar-requires c κs =
     let test = c .before .before .fits2 in
     let a = c .before .before .before .before .before .before .args in
     let fit = sym (test .ensures) ∙ not-false (test .result) (c .before .if1 .left) in
-    let h = fitting (length (a .program .now)) (length (a .room .now)) (a .thread) fit in
+    let h = fitting (length (a .program .now)) (length (a .regs .now)) (a .thread) fit in
     ((h .1, h .2), omega arith)
 
 in-program-requires : tie.Need-in-program-requires
 in-program-requires c κs =
     let test = c .before .before .before .fits2 in
     let a = c .before .before .before .before .before .before .before .args in
-    fitting (length (a .program .now)) (length (a .room .now)) (a .thread)
+    fitting (length (a .program .now)) (length (a .regs .now)) (a .thread)
     (sym (test .ensures) ∙ not-false (test .result) (c .before .before .if1 .left)) .0
 
 shared-slice-read-w : tie.Need-shared-slice-read-w
@@ -61,7 +61,7 @@ returns-3 c =
     let pc = fetched .before .before .before .scalar in
     let unfit = fetched .before .before .before .before .before in
     let a = unfit .before .before .before .before .before .args in
-    tries-issue (a .program .now) (a .thread) (a .room .now) (a .memory .now)
+    tries-issue (a .program .now) (a .thread) (a .regs .now) (a .memory .now)
     (sym (unfit .before .fits2 .ensures) ∙ not-false (unfit .before .fits2 .result) (unfit .if1 .left))
     (pc .result) (pc .ensures) (sym (test .ensures) ∙ not-false (test .result) (fetched .before .if2 .left)) (w .result) _ _ (w .ensures)
 

@@ -11,7 +11,7 @@ returns-5 c enabled =
     let chosen = called .before .before in
     let read = chosen .before .before .before .before .before in
     let a = read .before .before .before .args in
-    tries-action (context (a .t) (a .pc) enabled (a .words)) (a .w) (read .register .result) (read .register .ensures) (a .room .now) (a .memory .now)
+    tries-action (context (a .t) (a .pc) enabled (a .words)) (a .w) (read .register .result) (read .register .ensures) (a .regs .now) (a .memory .now)
     (chosen .action .result) (chosen .action .ensures _ enabled _) (called .act .result) _ (called .act .ensures enabled)
 
 pub word-spec : {M : Type 1} → statement M

@@ -8,7 +8,7 @@ use native.Mathlib.Numerals.{add-one}
 use Rattle.image_layout.proofs.Join.{grown-start, grown-join, grown-one, grown-new, grown-end}
 use Rattle.image_layout.proofs.Rows.{th-order}
 use Rattle.image_layout.proofs.Tests.{all-none, all-next}
-use Rattle.image_layout.specs.Join.{joined, allBelow, Grown}
+use Rattle.image_layout.specs.Join.{concatBelow, allBelow, Grown}
 use Rattle.image_layout.specs.Layout.{recordKinds, recordSize}
 use Rattle.image.specs.Image.{isEntry, entryOr}
 use Rattle.image.specs.Types.{Th}
@@ -19,7 +19,7 @@ use Rattle.image.proofs.entries.entries_in.Statement.{statement}
 use Rattle.image.proofs.entries.entries_in.Tie as tie
 
 abbrev Inv-loop : tie.InvT-loop
-Inv-loop image size at₀ read₀ threads₀ t₀ at read threads t = (t ≤ 8) × (at ≡ at₀ + size * t) × (read ≡ allBelow t (λ k. isEntry (entryAt image (at₀ + size * k)))) × Grown threads₀ threads 0 t (joined t (λ k. entryOr (entryAt image (at₀ + size * k)) ∷ []))
+Inv-loop image size at₀ read₀ threads₀ t₀ at read threads t = (t ≤ 8) × (at ≡ at₀ + size * t) × (read ≡ allBelow t (λ k. isEntry (entryAt image (at₀ + size * k)))) × Grown threads₀ threads 0 t (concatBelow t (λ k. entryOr (entryAt image (at₀ + size * k)) ∷ []))
 
 abbrev μ-loop : tie.MeasureT-loop
 μ-loop image size at₀ read₀ threads₀ t₀ at read threads t = 8 - t

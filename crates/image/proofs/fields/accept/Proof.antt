@@ -1,7 +1,7 @@
 -- `fields::accept` meets its contract.
 use mathlib.Core.Path.{_≡_, sym, ap, _∙_}
 use borrow.Author.Needs.{needs}
-use Rattle.image.specs.Fields.{accepted, sameFields, statusFields, fieldsOf}
+use Rattle.image.specs.Fields.{checkedThread, sameFields, statusFields, fieldsOf}
 use Rattle.image.proofs.fields.accept.Statement.{statement}
 use Rattle.image.proofs.fields.accept.Tie as tie
 
@@ -12,11 +12,11 @@ same c =
     ∙ sym (c .same-fields .ensures)
 
 returns : tie.Need-returns
-unfolding accepted
+unfolding checkedThread
 returns c = rw (same (c .before) ∙ c .if1 .taken, c .before .before .before .of-status .ensures)
 
 returns-2 : tie.Need-returns-2
-unfolding accepted
+unfolding checkedThread
 returns-2 c = rw (same (c .before) ∙ c .if1 .left)
 
 pub accept-spec : {M : Type 1} → statement M

@@ -4,14 +4,14 @@ use mathlib.Core.Option.{Option, some, none}
 use borrow.Author.Needs.{needs}
 use borrow.Author.Tests.{ne-eqb}
 use Rattle.answer.specs.Answer.{Answer}
-use Rattle.image.specs.Fields.{accepted, numbered, threadOf}
-use Rattle.image.specs.Types.{Status, Idle, Running, Ended, Trapped, Waiting, Thread, Fields}
+use Rattle.image.specs.Fields.{checkedThread, statusOf, threadOf}
+use Rattle.image.specs.Types.{Status, Idle, Running, Ended, Trapped, Waiting, Thread, ThreadFields}
 use Rattle.image.proofs.fields.read_entry.Statement.{statement}
 use Rattle.image.proofs.fields.read_entry.Tie as tie
 
-named : (f : Fields) (s : Option Status) {r : Answer Thread} → numbered f ≡ s → r ≡ accepted f s → r ≡ threadOf f
+named : (f : ThreadFields) (s : Option Status) {r : Answer Thread} → statusOf f ≡ s → r ≡ checkedThread f s → r ≡ threadOf f
 unfolding threadOf
-named f s e h = h ∙ ap (accepted f) (sym e)
+named f s e h = h ∙ ap (checkedThread f) (sym e)
 
 returns : tie.Need-returns
 returns c = named (c .before .before .args .fields) (some Idle) (simp (c .before .match .keys1)) (c .accept .ensures)
@@ -34,7 +34,7 @@ returns-5 c =
 
 -- no status has that number
 returns-6 : tie.Need-returns-6
-unfolding accepted
+unfolding checkedThread
 returns-6 c =
     let f = c .before .args .fields in
     let n = c .match .rest in

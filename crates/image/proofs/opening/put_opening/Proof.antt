@@ -1,7 +1,7 @@
 -- `opening::put_opening` meets its contract.
 use mathlib.Core.Path.{_∙_, sym}
 use Rattle.image_layout.proofs.Join.{grown-more, grown-whole}
-use Rattle.image_layout.specs.Join.{joined}
+use Rattle.image_layout.specs.Join.{concatBelow}
 use Rattle.image.specs.Opening.{recordBytes}
 use Rattle.image.proofs.Openings.{hd-length, opening-length}
 use native.Mathlib.Omega.{arith}
@@ -15,7 +15,7 @@ put-section-requires-2 c κs =
     (tt, omega (arith, g .next, g .size, hd-length (c .before .before .before .before .before .before .before .before .before .before .args .machine), c .before .before .before .before .before .before .before .before .before .before .pre))
 
 returns : tie.Need-returns
-unfolding recordBytes joined
+unfolding recordBytes concatBelow
 returns c =
     let m = c .before .before .before .before .before .before .before .before .before .before .before .before .before .args .machine in
     grown-whole {x = recordBytes m} (grown-more (c .before .before .before .before .before .before .before .before .put-section .ensures) (c .before .before .put-section2 .ensures)) (opening-length m ∙ sym (c .before .before .before .before .before .before .before .before .before .before .before .before .before .pre))

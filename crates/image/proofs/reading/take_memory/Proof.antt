@@ -5,7 +5,7 @@ use native.Mathlib.Nat.{mul-suc}
 use native.Mathlib.Numerals.{add-one}
 use lib.ListN.{take, drop}
 use Rattle.image_layout.proofs.Join.{grown-start, grown-join, grown-end, grown-new, grown-whole}
-use Rattle.image_layout.specs.Join.{joined, Grown}
+use Rattle.image_layout.specs.Join.{concatBelow, Grown}
 use Rattle.image_layout.specs.Layout.{rowOf, recordSize}
 use Rattle.image.specs.Types.{Mm}
 use Rattle.image.proofs.RecordIn.{fixed-place, body-room}
@@ -16,7 +16,7 @@ use Rattle.image.proofs.reading.take_memory.Statement.{statement}
 use Rattle.image.proofs.reading.take_memory.Tie as tie
 
 abbrev Inv-loop : tie.InvT-loop
-Inv-loop image memory₀ count size at₀ next₀ i₀ memory at next i = (i ≤ count) × (at ≡ at₀ + size * i) × (next ≡ 64 * i) × Grown memory₀ memory 0 next (joined i (λ k. take 64 (drop (at₀ + size * k) image)))
+Inv-loop image memory₀ count size at₀ next₀ i₀ memory at next i = (i ≤ count) × (at ≡ at₀ + size * i) × (next ≡ 64 * i) × Grown memory₀ memory 0 next (concatBelow i (λ k. take 64 (drop (at₀ + size * k) image)))
 
 abbrev μ-loop : tie.MeasureT-loop
 μ-loop image memory₀ count size at₀ next₀ i₀ memory at next i = count - i

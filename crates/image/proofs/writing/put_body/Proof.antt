@@ -2,7 +2,7 @@
 use Prim.Native.Nat.{_+_, _*_, _/_, _%_}
 use mathlib.Core.Path.{_≡_, ap}
 use lib.ListN.{drop, length-set}
-use Rattle.machine.specs.State.{scalarPlace, lanePlace}
+use Rattle.machine.specs.State.{scalarIndex, laneIndex}
 use Rattle.image_layout.proofs.Join.{grown-new}
 use Rattle.little_endian.specs.Numbers.{bytesOf}
 use Rattle.image.specs.Image.{fieldBytes}
@@ -54,13 +54,13 @@ returns-2 c = rw (c .before .before .before .before .before .before .enum-told2 
 returns-3 : tie.Need-returns-3
 returns-3 c =
     let a = c .before .before .before .before .before .before .before .before .before .args in
-    let z : 64 * a .i ≡ scalarPlace (a .i) 0 = omega arith in
+    let z : 64 * a .i ≡ scalarIndex (a .i) 0 = omega arith in
     rw (c .before .before .before .before .enum-told3 .given .1) (grown-new (ap (λ n. bytesOf 64 (drop n (a .registers .now))) z) (c .before .before .put-words .ensures))
 
 returns-4 : tie.Need-returns-4
 returns-4 c =
     let a = c .before .before .before .before .before .before .before .before .before .args in
-    let z : 512 + 16 * a .i ≡ lanePlace (a .i / 64) (a .i % 64) 0 = omega arith in
+    let z : 512 + 16 * a .i ≡ laneIndex (a .i / 64) (a .i % 64) 0 = omega arith in
     rw (c .before .before .before .before .enum-told4 .given .1) (grown-new (ap (λ n. bytesOf 16 (drop n (a .registers .now))) z) (c .before .before .put-words2 .ensures))
 
 pub put-body-spec : {M : Type 1} → statement M

@@ -4,7 +4,7 @@ use mathlib.Core.Path.{ap, _∙_}
 use Rattle.machine.specs.State.{State, state}
 use Rattle.image_layout.proofs.Join.{grown-start, grown-join, grown-end, grown-new, grown-whole}
 use Rattle.image_layout.proofs.Rows.{sectionAt, sections-length, start-room}
-use Rattle.image_layout.specs.Join.{joined, Grown}
+use Rattle.image_layout.specs.Join.{concatBelow, Grown}
 use Rattle.image_layout.specs.Layout.{kinds, kindAt, rowOf, sectionOf, laidOut}
 use Rattle.image.specs.Image.{bodyOf}
 use Rattle.image.proofs.Bodies.{body-length, suits}
@@ -14,7 +14,7 @@ use Rattle.image.proofs.writing.put_image.Statement.{statement}
 use Rattle.image.proofs.writing.put_image.Tie as tie
 
 abbrev Inv-loop : tie.InvT-loop
-Inv-loop shape registers memory machine buffer₀ next₀ position₀ buffer next position = (position ≤ kinds) × Grown buffer₀ buffer 0 next (joined position (sectionAt shape (bodyOf (state machine registers memory))))
+Inv-loop shape registers memory machine buffer₀ next₀ position₀ buffer next position = (position ≤ kinds) × Grown buffer₀ buffer 0 next (concatBelow position (sectionAt shape (bodyOf (state machine registers memory))))
 
 abbrev μ-loop : tie.MeasureT-loop
 μ-loop shape registers memory machine buffer₀ next₀ position₀ buffer next position = kinds - position

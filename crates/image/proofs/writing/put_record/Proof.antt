@@ -3,7 +3,7 @@ use mathlib.Core.Path.{ap}
 use Rattle.image_layout.specs.Layout.{rowOf, headOf, recordOf}
 use Rattle.image_layout.proofs.Join.{grown-more, grown-new}
 use Rattle.image_layout.proofs.Rows.{head-length}
-use Rattle.image.proofs.Bodies.{numbered}
+use Rattle.image.proofs.Bodies.{place-fits}
 use native.Mathlib.Omega.{arith}
 use borrow.Author.Needs.{needs}
 use Rattle.image.proofs.writing.put_record.Statement.{statement}
@@ -12,7 +12,7 @@ use Rattle.image.proofs.writing.put_record.Tie as tie
 put-head-requires : tie.Need-put-head-requires
 put-head-requires c κs =
     let a = c .before .before .before .before .before .args in
-    rw (c .before .row-of .ensures) (numbered (a .shape) (a .registers .now) (a .memory .now) (a .kind) (a .i) (c .before .before .before .before .before .pre .0) (c .before .before .before .before .before .pre .1), omega (arith, c .before .before .before .before .before .pre .2))
+    rw (c .before .row-of .ensures) (place-fits (a .shape) (a .registers .now) (a .memory .now) (a .kind) (a .i) (c .before .before .before .before .before .pre .0) (c .before .before .before .before .before .pre .1), omega (arith, c .before .before .before .before .before .pre .2))
 
 put-body-requires : tie.Need-put-body-requires
 put-body-requires c κs =

@@ -4,7 +4,7 @@ use mathlib.Core.Path.{_≡_, ap}
 use Rattle.machine.specs.State.{State, state}
 use Rattle.image_layout.proofs.Join.{grown-start, grown-join, grown-end, room-for}
 use Rattle.image_layout.proofs.Rows.{record-length}
-use Rattle.image_layout.specs.Join.{joined, Grown}
+use Rattle.image_layout.specs.Join.{concatBelow, Grown}
 use Rattle.image_layout.specs.Layout.{rowOf, recordSize, recordOf, sectionOf}
 use Rattle.image.specs.Image.{bodyOf}
 use Rattle.image.proofs.Bodies.{body-length-of}
@@ -14,7 +14,7 @@ use Rattle.image.proofs.writing.put_section.Statement.{statement}
 use Rattle.image.proofs.writing.put_section.Tie as tie
 
 abbrev Inv-loop : tie.InvT-loop
-Inv-loop shape kind registers memory machine buffer₀ at count next₀ i₀ buffer next i = (i ≤ count) × Grown buffer₀ buffer at next (joined i (recordOf (rowOf shape kind) (bodyOf (state machine registers memory) kind)))
+Inv-loop shape kind registers memory machine buffer₀ at count next₀ i₀ buffer next i = (i ≤ count) × Grown buffer₀ buffer at next (concatBelow i (recordOf (rowOf shape kind) (bodyOf (state machine registers memory) kind)))
 
 abbrev μ-loop : tie.MeasureT-loop
 μ-loop shape kind registers memory machine buffer₀ at count next₀ i₀ buffer next i = count - i

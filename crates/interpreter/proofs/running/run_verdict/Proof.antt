@@ -20,4 +20,4 @@ run-verdict-spec =
     let a = c .before .before .before .args in
     c .first-refusal .ensures
     ∙ (λ i. refusedOr (c .before .before .lengths-verdict .ensures i) some (c .before .record-verdict .ensures i))
-    ∙ sym (first-after (lengthChecks (a .words) (a .room) (a .bytes)) (recordChecks (a .machine)))))
+    ∙ sym (first-after (lengthChecks (a .words) (a .regs) (a .bytes)) (recordChecks (a .machine)))))

@@ -21,15 +21,15 @@ loop-holds c = (omega arith, refl, refl)
 loop-again : tie.Need-loop-again Inv-loop μ-loop
 loop-again c =
     let l = c .before .loop in
-    let room = c .before .before .args .registers .now in
-    (omega arith, length-set (l .registers) (l .i) 0 ∙ l .inv .1, ap (λ r. set r (l .i) 0) (l .inv .2) ∙ cleared-more room (l .i) (omega arith))
+    let regs = c .before .before .args .registers .now in
+    (omega arith, length-set (l .registers) (l .i) 0 ∙ l .inv .1, ap (λ r. set r (l .i) 0) (l .inv .2) ∙ cleared-more regs (l .i) (omega arith))
 
 returns : tie.Need-returns Inv-loop μ-loop
 returns c =
     let l = c .before .loop in
-    let room = c .before .before .args .registers .now in
-    let e : l .i ≡ length room = omega arith in
-    l .inv .2 ∙ (ap (cleared room) e ∙ cleared-all room)
+    let regs = c .before .before .args .registers .now in
+    let e : l .i ≡ length regs = omega arith in
+    l .inv .2 ∙ (ap (cleared regs) e ∙ cleared-all regs)
 
 pub clear-spec : {M : Type 1} → statement M
 clear-spec =

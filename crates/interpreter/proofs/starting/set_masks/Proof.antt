@@ -4,7 +4,7 @@ use mathlib.Core.Path.{_≡_, refl, ap, _∙_}
 use native.Mathlib.Omega.{arith}
 use borrow.Author.Needs.{needs}
 use lib.ListN.{length, set, length-set}
-use Rattle.machine.specs.State.{scalarPlace, laneMaskRegister}
+use Rattle.machine.specs.State.{scalarIndex, laneMaskRegister}
 use Rattle.interpreter.specs.Start.{withMasks}
 use Rattle.interpreter.proofs.Rooms.{masks-more}
 use Rattle.interpreter.proofs.starting.set_masks.Statement.{statement}
@@ -23,10 +23,10 @@ loop-holds c = (omega arith, refl, refl)
 loop-again : tie.Need-loop-again Inv-loop μ-loop
 loop-again c =
     let l = c .before .loop in
-    let room = c .before .before .args .registers .now in (
+    let regs = c .before .before .args .registers .now in (
       omega arith,
       length-set (l .registers) _ _ ∙ l .inv .1,
-      ap (λ r. set r (scalarPlace (l .thread) laneMaskRegister) 0xFFFF) (l .inv .2) ∙ masks-more room (l .thread),
+      ap (λ r. set r (scalarIndex (l .thread) laneMaskRegister) 0xFFFF) (l .inv .2) ∙ masks-more regs (l .thread),
     )
 
 returns : tie.Need-returns Inv-loop μ-loop

@@ -3,11 +3,11 @@ use borrow.Author.Needs.{needs}
 use native.Mathlib.Nat.{div-one}
 use Rattle.isa.proofs.read.as_c.Statement.{statement}
 use Rattle.isa.proofs.read.as_c.Tie as tie
-use Rattle.isa.specs.Read.{asC, accepted}
+use Rattle.isa.specs.Read.{asC, guarded}
 use Rattle.isa.specs.Test.{all}
 
 pub as-c-spec : {M : Type 1} → statement M
-unfolding asC accepted all
+unfolding asC guarded all
 as-c-spec =
     tie.close
     (tie.spec

@@ -3,11 +3,11 @@ use borrow.Author.Needs.{needs}
 use native.Mathlib.Nat.{div-one}
 use Rattle.isa.proofs.read.as_i.Statement.{statement}
 use Rattle.isa.proofs.read.as_i.Tie as tie
-use Rattle.isa.specs.Read.{asI, accepted}
+use Rattle.isa.specs.Read.{asI, guarded}
 use Rattle.isa.specs.Test.{all}
 
 pub as-i-spec : {M : Type 1} → statement M
-unfolding asI accepted all
+unfolding asI guarded all
 as-i-spec =
     tie.close
     (tie.spec

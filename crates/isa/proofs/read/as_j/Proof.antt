@@ -2,10 +2,10 @@
 use borrow.Author.Needs.{needs}
 use Rattle.isa.proofs.read.as_j.Statement.{statement}
 use Rattle.isa.proofs.read.as_j.Tie as tie
-use Rattle.isa.specs.Read.{asJ, accepted}
+use Rattle.isa.specs.Read.{asJ, guarded}
 
 pub as-j-spec : {M : Type 1} → statement M
-unfolding asJ accepted
+unfolding asJ guarded
 as-j-spec =
     tie.close
     (tie.spec

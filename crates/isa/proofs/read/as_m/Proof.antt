@@ -4,11 +4,11 @@ use borrow.Author.Tests.{eq-eqb, ne-eqb}
 use native.Mathlib.Nat.{div-one}
 use Rattle.isa.proofs.read.as_m.Statement.{statement}
 use Rattle.isa.proofs.read.as_m.Tie as tie
-use Rattle.isa.specs.Read.{asM, accepted}
+use Rattle.isa.specs.Read.{asM, guarded}
 use Rattle.isa.specs.Test.{all}
 
 pub as-m-spec : {M : Type 1} → statement M
-unfolding asM accepted all
+unfolding asM guarded all
 as-m-spec =
     tie.close
     (tie.spec

@@ -3,11 +3,11 @@ use borrow.Author.Needs.{needs}
 use native.Mathlib.Nat.{div-one}
 use Rattle.isa.proofs.read.as_movei.Statement.{statement}
 use Rattle.isa.proofs.read.as_movei.Tie as tie
-use Rattle.isa.specs.Read.{asMovei, accepted}
+use Rattle.isa.specs.Read.{asMovei, guarded}
 use Rattle.isa.specs.Test.{all}
 
 pub as-movei-spec : {M : Type 1} → statement M
-unfolding asMovei accepted all
+unfolding asMovei guarded all
 as-movei-spec =
     tie.close
     (tie.spec

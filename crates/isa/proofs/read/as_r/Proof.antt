@@ -4,11 +4,11 @@ use borrow.Author.Tests.{eq-eqb, ne-eqb}
 use native.Mathlib.Nat.{div-one}
 use Rattle.isa.proofs.read.as_r.Statement.{statement}
 use Rattle.isa.proofs.read.as_r.Tie as tie
-use Rattle.isa.specs.Read.{asR, accepted}
+use Rattle.isa.specs.Read.{asR, guarded}
 use Rattle.isa.specs.Test.{all}
 
 pub as-r-spec : {M : Type 1} → statement M
-unfolding asR accepted all
+unfolding asR guarded all
 as-r-spec =
     tie.close
     (tie.spec

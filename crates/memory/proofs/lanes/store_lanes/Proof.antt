@@ -3,7 +3,7 @@ use mathlib.Core.Path.{_≡_, sym, ap, _∙_}
 use denote.Ref.{now}
 use borrow.Author.Needs.{needs}
 use Rattle.memory.specs.Types.{Access}
-use Rattle.memory.specs.Operation.{vectorPlace, outcome, storeLanes}
+use Rattle.memory.specs.Operation.{vectorPlace, storeResult, storeLanes}
 use Rattle.memory.specs.Attempt.{ofPlace}
 use Rattle.memory.proofs.Places.{within}
 use Rattle.memory.proofs.lanes.store_lanes.Statement.{statement}
@@ -19,7 +19,7 @@ returns : tie.Need-returns
 unfolding storeLanes
 returns c =
     rw (goes (c .before .before .before .before .before .before .before) ∙ ap ofPlace (c .before .before .before .before .before .place .given .1))
-    (ap (outcome Access.Done) (c .before .before .write-lanes .ensures))
+    (ap (storeResult Access.Done) (c .before .before .write-lanes .ensures))
 
 returns-2 : tie.Need-returns-2
 unfolding storeLanes

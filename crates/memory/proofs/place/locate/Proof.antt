@@ -3,21 +3,21 @@ use mathlib.Core.Path.{_≡_, sym, ap, _∙_}
 use native.Mathlib.Omega.{arith}
 use borrow.Author.Needs.{needs}
 use borrow.Author.Tests.{not-true, not-false}
-use Rattle.memory.specs.Place.{lifted, place}
-use Rattle.memory.proofs.Places.{lifted-lt, low-enough, when-misaligned, when-outside, when-good}
+use Rattle.memory.specs.Place.{biased, place}
+use Rattle.memory.proofs.Places.{biased-lt, low-enough, when-misaligned, when-outside, when-good}
 use Rattle.memory.proofs.place.locate.Statement.{statement}
 use Rattle.memory.proofs.place.locate.Tie as tie
 
 add-inside : tie.Need-add-inside
 add-inside c =
     let a = c .before .before .args in
-    omega (arith, c .before .lifted .ensures, lifted-lt (a .base) (a .offset) (search needs) (search needs))
+    omega (arith, c .before .biased .ensures, biased-lt (a .base) (a .offset) (search needs) (search needs))
 
 -- the place is that of the address which the code has
 same : (c : tie.After-is-multiple) →
     let a = c .before .before .args in
-    place (a .alignment) (a .size) (a .length) (c .before .lifted .result) ≡ place (a .alignment) (a .size) (a .length) (lifted (a .base) (a .offset))
-same c = let a = c .before .before .args in ap (place (a .alignment) (a .size) (a .length)) (c .before .lifted .ensures)
+    place (a .alignment) (a .size) (a .length) (c .before .biased .result) ≡ place (a .alignment) (a .size) (a .length) (biased (a .base) (a .offset))
+same c = let a = c .before .before .args in ap (place (a .alignment) (a .size) (a .length)) (c .before .biased .ensures)
 
 returns : tie.Need-returns
 returns c = sym (when-misaligned _ _ _ _ (sym (c .before .is-multiple .ensures) ∙ not-true _ (c .if1 .taken))) ∙ same (c .before)

@@ -5,7 +5,7 @@ use denote.Ref.{now}
 use borrow.Author.Needs.{needs}
 use Rattle.memory.specs.Types.{Access}
 use Rattle.memory.specs.Attempt.{ofPlace}
-use Rattle.memory.specs.Operation.{bytesStored, scalarPlace, outcome, store}
+use Rattle.memory.specs.Operation.{bytesStored, scalarPlace, storeResult, store}
 use Rattle.memory.proofs.Places.{stored-size, within, found}
 use Rattle.memory.proofs.scalar.store.Statement.{statement}
 use Rattle.memory.proofs.scalar.store.Tie as tie
@@ -26,7 +26,7 @@ returns : tie.Need-returns
 unfolding store
 returns c =
     rw (goes (c .before .before .before .before .before .before .before) ∙ ap ofPlace (c .before .before .before .before .before .place .given .1))
-    (ap (outcome Access.Done) (c .before .before .write .ensures))
+    (ap (storeResult Access.Done) (c .before .before .write .ensures))
 
 returns-2 : tie.Need-returns-2
 unfolding store

@@ -11,7 +11,7 @@ use Rattle.names.proofs.name.find.Statement.{statement}
 use Rattle.names.proofs.name.find.Tie as tie
 use Rattle.names.specs.Name.{spelled}
 use Rattle.names.specs.Rows.{rows, named}
-use Rattle.names.specs.declared.name.Row.{Row}
+use Rattle.names.specs.declared.name.NameRow.{NameRow}
 
 abbrev Inv-loop : tie.InvT-loop
 Inv-loop format opcode rows k₀ k = named rows format opcode ≡ named (drop k rows) format opcode
@@ -27,7 +27,7 @@ returns c =
     let e = s .before .table .ensures in
     let h : s .loop .k < length (s .before .table .result) = rw e (c .before .before .before .before .before .loop-test .taken) in
     sym (s .loop .inv ∙ here (s .before .table .result) _ _ (s .loop .k) h (c .before .if1 .taken))
-    ∙ ap (λ (l : List Row). named l (x .format) (x .opcode)) e
+    ∙ ap (λ (l : List NameRow). named l (x .format) (x .opcode)) e
 
 loop-again : tie.Need-loop-again Inv-loop μ-loop
 unfolding rows
@@ -37,7 +37,7 @@ loop-again c =
     s .loop .inv ∙ rw (add-one (s .loop .k)) (behind (s .before .table .result) _ _ (s .loop .k) h (c .if1 .left))
 
 -- no row is left
-none : (l : List Row) (f o k : ℕ) → length l ≤ k → spelled [] ≡ named (drop k l) f o
+none : (l : List NameRow) (f o k : ℕ) → length l ≤ k → spelled [] ≡ named (drop k l) f o
 unfolding named
 none l f o k h = rw (drop-of-length-le l {i = k} h)
 
@@ -49,7 +49,7 @@ returns-2 c =
     let e = s .before .table .ensures in
     let h : length (s .before .table .result) ≤ s .loop .k = rw e (c .loop-test .left) in
     none (s .before .table .result) (x .format) (x .opcode) (s .loop .k) h
-    ∙ sym (s .loop .inv) ∙ ap (λ (l : List Row). named l (x .format) (x .opcode)) e
+    ∙ sym (s .loop .inv) ∙ ap (λ (l : List NameRow). named l (x .format) (x .opcode)) e
 
 pub find-spec : {M : Type 1} → statement M
 find-spec =

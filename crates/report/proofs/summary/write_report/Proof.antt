@@ -8,7 +8,7 @@ use Rattle.report.proofs.Lengths.{body-whole}
 use Rattle.report.proofs.summary.write_report.Statement.{statement}
 use Rattle.report.proofs.summary.write_report.Tie as tie
 use Rattle.report.specs.Report.{report}
-use Rattle.thread_lines.specs.Text.{joined}
+use Rattle.thread_lines.specs.Text.{concat}
 
 returns : tie.Need-returns
 unfolding report bytes
@@ -32,7 +32,7 @@ returns-3 c =
     (c .put-body3 .ensures ∙ body-whole (x .out .now) (bytes "spent") (x .run .issues) (x .run .machine) (x .registers .now) (c .before .before .put-body-arg5 .given .0 .1) (lit≤ tt))
 
 returns-4 : tie.Need-returns-4
-unfolding report joined
+unfolding report concat
 returns-4 c = rw (c .enum-told4 .given .1) (writes-none (c .before .before .args .out .now) 0)
 
 pub write-report-spec : {M : Type 1} → statement M

@@ -7,4 +7,4 @@ pub entry-in-order-spec : {M : Type 1} → statement M
 entry-in-order-spec =
     tie.close
     (tie.spec (λ c κs. search needs) (λ c κs. search needs) (λ c κs. search needs) (λ c κs. search needs) (λ c κs. search needs)
-    (λ c. rw (← c .before .before .before .before .status-at .ensures, ← c .before .before .before .is-disabled .ensures, ← c .before .before .is-idle .ensures, ← c .before .carries-in-range .ensures, ← c .meeting-in-order .ensures)))
+    (λ c. rw (← c .before .before .before .before .status-at .ensures, ← c .before .before .before .is-disabled .ensures, ← c .before .before .is-idle .ensures, ← c .before .carries-in-range .ensures, ← c .barrier-in-order .ensures)))

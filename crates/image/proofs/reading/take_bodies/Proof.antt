@@ -6,18 +6,18 @@ use native.Mathlib.Numerals.{add-one}
 use lib.ListN.{drop}
 use Rattle.image_layout.proofs.Join.{fits-in, grown-start, grown-join, grown-end, grown-new, grown-same}
 use Rattle.image_layout.proofs.Rows.{size-few}
-use Rattle.image_layout.specs.Join.{joined, Grown}
+use Rattle.image_layout.specs.Join.{concatBelow, Grown}
 use Rattle.image_layout.specs.Layout.{rowOf, recordSize}
 use Rattle.little_endian.specs.Numbers.{wordsOf}
 use Rattle.image.proofs.RecordIn.{fixed-place, body-room}
 use Rattle.image.proofs.Rooms.{room-read}
 use native.Mathlib.Omega.{arith}
 use borrow.Author.Needs.{needs}
-use Rattle.image.proofs.reading.take_room.Statement.{statement}
-use Rattle.image.proofs.reading.take_room.Tie as tie
+use Rattle.image.proofs.reading.take_bodies.Statement.{statement}
+use Rattle.image.proofs.reading.take_bodies.Tie as tie
 
 abbrev Inv-loop : tie.InvT-loop
-Inv-loop n image registers₀ from count size at₀ next₀ i₀ registers at next i = (i ≤ count) × (at ≡ at₀ + size * i) × (next ≡ from + n * i) × Grown registers₀ registers from next (joined i (λ k. wordsOf n (drop (at₀ + size * k) image)))
+Inv-loop n image registers₀ from count size at₀ next₀ i₀ registers at next i = (i ≤ count) × (at ≡ at₀ + size * i) × (next ≡ from + n * i) × Grown registers₀ registers from next (concatBelow i (λ k. wordsOf n (drop (at₀ + size * k) image)))
 
 abbrev μ-loop : tie.MeasureT-loop
 μ-loop n image registers₀ from count size at₀ next₀ i₀ registers at next i = count - i
@@ -75,8 +75,8 @@ returns c =
     let f : l .i ≡ rowOf (a .shape) (a .kind) .count = omega (arith, e, l .inv .0, c .loop-test .left) in
     grown-same _ (l .inv .2 ∙ ap (λ i. a .from + a .n * i) f) (grown-new (room-read (a .shape) (a .image .now) (a .kind) (a .n) at size (c .before .before .before .before .before .before .before .pre .1) place) g)
 
-pub take-room-spec : {M : Type 1} → statement M
-take-room-spec =
+pub take-bodies-spec : {M : Type 1} → statement M
+take-bodies-spec =
     tie.close
     (tie.spec
     Inv-loop

@@ -1,10 +1,10 @@
--- `meeting_in_order` meets its contract.
+-- `barrier_in_order` meets its contract.
 use borrow.Author.Needs.{needs}
-use Rattle.machine.proofs.record.Machine.meeting_in_order.Statement.{statement}
-use Rattle.machine.proofs.record.Machine.meeting_in_order.Tie as tie
+use Rattle.machine.proofs.record.Machine.barrier_in_order.Statement.{statement}
+use Rattle.machine.proofs.record.Machine.barrier_in_order.Tie as tie
 
-pub meeting-in-order-spec : {M : Type 1} → statement M
-meeting-in-order-spec =
+pub barrier-in-order-spec : {M : Type 1} → statement M
+barrier-in-order-spec =
     tie.close
     (tie.spec (λ c. search needs) (λ c. search needs) (λ c. search needs) (λ c. search needs) (λ c. search needs)
     (λ c κs. search needs)
