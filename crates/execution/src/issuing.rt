@@ -32,8 +32,8 @@ fn reach_barrier(
 ) -> Machine
     requires { ⌜ InRegisters (now registers) (context .thread) × (context .pc < 65536) ⌝ }
     ensures { λ r. ⌜
-        (r ≡ reach_barrier machine (context .thread) id second .machine)
-        × (now (registers .exit) ≡ afterBarrier context (now (registers .entry)) (reach_barrier machine (context .thread) id second))
+        (r ≡ reachBarrier machine (context .thread) id second .machine)
+        × (now (registers .exit) ≡ afterBarrier context (now (registers .entry)) (reachBarrier machine (context .thread) id second))
         ⌝ }
 {
     let met = machine.reach_barrier(context.thread, id, second);

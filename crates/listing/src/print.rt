@@ -1,4 +1,5 @@
 // The listing: header, lines, and the refusal.
+use answer::PROGRAM_WORDS;
 use isa::Reading;
 use little_endian::word_at;
 use text::hex_of;
@@ -76,9 +77,11 @@ fn put_line(out: &mut [u8], at: usize, address: u32, w: u32) -> usize
     }
 }
 
-// Puts the listing of a program's bytes at the start of the buffer, and answers its length. The buffer has room for the longest
-// listing: 12 bytes for the header and 29 for each of 16,384 lines.
-pub fn list(input: &[u8], out: &mut [u8; 475148]) -> usize
+// The longest listing: 12 bytes for the header and 29 for each line.
+pub const LONGEST: usize = 12 + 29 * PROGRAM_WORDS;
+
+// Puts the listing of a program's bytes at the start of the buffer, and answers its length.
+pub fn list(input: &[u8], out: &mut [u8; LONGEST]) -> usize
     ensures { λ r. ⌜ wrote r (now (out .exit)) ≡ printed (now (input .entry)) (now (out .entry)) ⌝ }
 {
     let refused = program::bad_bytes(input.len());

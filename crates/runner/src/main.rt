@@ -1,29 +1,37 @@
 // The runner: reads a program, starts a machine or resumes a saved one, runs the program on it, saves it where asked, and prints how
 // the run ended.
-mod complaints;
 mod saving;
 mod settings;
-mod streams;
+mod sizes;
 
-use complaints::refuse;
+use answer::MEMORY_BYTES;
+use answer::PROGRAM_WORDS;
+use answer::ROOM_WORDS;
+use files::read_stream;
+use files::refuse;
 use image::ReadAnswer;
 use interpreter::Run;
 use interpreter::RunAnswer;
 use interpreter::StartAnswer;
+use libc::STDIN_FILENO;
 use libc::STDOUT_FILENO;
 use machine::Machine;
+use program::INPUT_ROOM;
 use settings::Settings;
+use sizes::IMAGE_ROOM;
+use sizes::memory_of;
 ghost use Prim.Native.Nat.{_≤_};
 ghost use lib.ListN.{length};
+ghost use Rattle.answer.specs.Refusal.{memoryBytes};
+
+// The stream of a machine to resume, which the command opens.
+const IMAGE_IN: i32 = 3;
 
 // Prints how a run ended.
-fn print(run: Run, registers: &[u32; 8704]) {
-    let mut text = [0u8; 733];
+fn print(run: Run, registers: &[u32; ROOM_WORDS]) {
+    let mut text = [0u8; report::LONGEST];
     let length = report::write_report(run, registers, &mut text);
-    let written = io::write_all(STDOUT_FILENO, &text[..length]);
-    if !written {
-        complaints::fail(b"write standard output");
-    }
+    files::write_stream(STDOUT_FILENO, b"write standard output", &text[..length]);
 }
 
 // Runs the program, saves the machine where asked, and prints how the run ended: in this order, so that nothing is printed of a run
@@ -31,11 +39,11 @@ fn print(run: Run, registers: &[u32; 8704]) {
 fn run(
     settings: Settings,
     program: &[u32],
-    registers: &mut [u32; 8704],
+    registers: &mut [u32; ROOM_WORDS],
     memory: &mut [u8],
     machine: Machine,
 )
-    requires { ⌜ length (now memory) ≤ 65536 ⌝ }
+    requires { ⌜ length (now memory) ≤ memoryBytes ⌝ }
 {
     let run = interpreter::run(program, registers, memory, machine, settings.budget);
     let answer = run.answer;
@@ -55,9 +63,9 @@ fn run(
 
 // Starts a machine on a memory of zeros, and runs the program.
 fn start(settings: Settings, program: &[u32], memory: &mut [u8])
-    requires { ⌜ length (now memory) ≤ 65536 ⌝ }
+    requires { ⌜ length (now memory) ≤ memoryBytes ⌝ }
 {
-    let mut registers = [0u32; 8704];
+    let mut registers = [0u32; ROOM_WORDS];
     let started = interpreter::start(settings.mask, &mut registers);
     let answer = started.answer;
     let machine = started.machine;
@@ -74,31 +82,15 @@ fn begin(settings: Settings, program: &[u32]) {
         refuse(3);
         return;
     }
-    let mut memory = [0u8; 65536];
+    let mut memory = [0u8; MEMORY_BYTES];
     start(settings, program, &mut memory[..size]);
-}
-
-// The memory whose image has so many bytes; 0 where none has.
-fn memory_of(size: usize) -> usize
-    ensures { λ r. ⌜ r ≤ 65536 ⌝ }
-{
-    if size < 37016 {
-        return 0;
-    }
-    if 106580 < size {
-        return 0;
-    }
-    if (size - 36948) % 68 != 0 {
-        return 0;
-    }
-    64 * ((size - 36948) / 68)
 }
 
 // Reads a machine from an image, and runs the program on it.
 fn restore(settings: Settings, program: &[u32], image: &[u8], memory: &mut [u8])
-    requires { ⌜ length (now memory) ≤ 65536 ⌝ }
+    requires { ⌜ length (now memory) ≤ memoryBytes ⌝ }
 {
-    let mut registers = [0u32; 8704];
+    let mut registers = [0u32; ROOM_WORDS];
     let read = image::read(image, &mut registers, memory);
     let answer = read.answer;
     let machine = read.machine;
@@ -109,9 +101,8 @@ fn restore(settings: Settings, program: &[u32], image: &[u8], memory: &mut [u8])
 }
 
 fn resume(settings: Settings, program: &[u32]) {
-    // one byte more than the longest image, so that a longer one is seen
-    let mut image = [0u8; 106581];
-    let filled = streams::read_image(&mut image);
+    let mut image = [0u8; IMAGE_ROOM];
+    let filled = read_stream(IMAGE_IN, b"read the image", &mut image);
     let length = filled.size;
     if filled.failed {
         return;
@@ -121,7 +112,7 @@ fn resume(settings: Settings, program: &[u32]) {
         refuse(9);
         return;
     }
-    let mut memory = [0u8; 65536];
+    let mut memory = [0u8; MEMORY_BYTES];
     restore(settings, program, &image[..length], &mut memory[..size]);
 }
 
@@ -135,14 +126,13 @@ fn go_on(settings: Settings, program: &[u32]) {
 
 // Reads the program, and goes on with it.
 fn load(settings: Settings) {
-    // one byte more than the longest program, so that a longer one is seen
-    let mut bytes = [0u8; 65537];
-    let filled = streams::read_program(&mut bytes);
+    let mut bytes = [0u8; INPUT_ROOM];
+    let filled = read_stream(STDIN_FILENO, b"read the program", &mut bytes);
     let size = filled.size;
     if filled.failed {
         return;
     }
-    let mut program = [0u32; 16384];
+    let mut program = [0u32; PROGRAM_WORDS];
     let count = program::words(&bytes[..size], &mut program);
     if count == 0 {
         refuse(1);

@@ -1,10 +1,16 @@
 // The machine saved as an image.
-use crate::complaints::refuse;
-use crate::streams::write_image;
+use crate::sizes::LONGEST_IMAGE;
+use crate::sizes::image_of;
+use files::refuse;
+use files::write_synced;
 use image::WriteAnswer;
 use machine::Machine;
 ghost use Prim.Native.Nat.{_≤_};
 ghost use lib.ListN.{length};
+ghost use Rattle.answer.specs.Refusal.{memoryBytes};
+
+// The stream of a machine to save, which the command opens.
+const IMAGE_OUT: i32 = 4;
 
 // Puts the image into a buffer of its length, and the buffer into the stream.
 fn save_by(registers: &[u32], memory: &[u8], machine: Machine, image: &mut [u8]) -> bool {
@@ -14,15 +20,15 @@ fn save_by(registers: &[u32], memory: &[u8], machine: Machine, image: &mut [u8])
             refuse(number);
             false
         }
-        WriteAnswer::Written => write_image(image),
+        WriteAnswer::Written => write_synced(IMAGE_OUT, b"write the image", image),
     }
 }
 
 // Saves the machine; answers whether that went well.
 pub fn save(registers: &[u32], memory: &[u8], machine: Machine) -> bool
-    requires { ⌜ length (now memory) ≤ 65536 ⌝ }
+    requires { ⌜ length (now memory) ≤ memoryBytes ⌝ }
 {
-    let mut image = [0u8; 106580];
-    let size = 36948 + 68 * (memory.len() / 64);
+    let mut image = [0u8; LONGEST_IMAGE];
+    let size = image_of(memory.len());
     save_by(registers, memory, machine, &mut image[..size])
 }

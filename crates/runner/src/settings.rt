@@ -1,5 +1,5 @@
 // The arguments, five decimal numbers that the command gives: MASK MEMORY BUDGET RESUME SAVE.
-use crate::complaints::complain;
+use files::complain;
 use text::Argument;
 
 // What a run goes by. A machine that is resumed has its own mask and memory.

@@ -1,8 +1,6 @@
 -- Text put together from parts.
-use Prim.Native.Nat.{ℕ, zero, suc, _+_, _/_, _%_}
-use mathlib.Core.Bool.{cond}
+use Prim.Native.Nat.{ℕ}
 use mathlib.Core.List.{List, [], _∷_, _++_}
-use lib.Dec.{ltb}
 use Rattle.text.specs.Buffer.{Wrote, puts}
 use Rattle.text.specs.Number.{hex}
 

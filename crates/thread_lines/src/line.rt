@@ -4,8 +4,8 @@ ghost use mathlib.Core.Path.{_≡_};
 ghost use Rattle.text.specs.Buffer.{wrote, puts};
 ghost use Rattle.thread_lines.specs.Lines.{reason, barrierParts, stateParts, lineParts, offPart};
 ghost use Rattle.thread_lines.specs.Text.{counter, putsAll};
-ghost use Rattle.machine.specs.Status.{isIdle};
 use machine::Status;
+use machine::is_idle;
 use text::hex_of;
 use text::put_decimal;
 use text::put_text;
@@ -71,24 +71,11 @@ fn put_state(out: &mut [u8], at: usize, status: Status, pc: u32) -> usize
     }
 }
 
-// Whether a thread is off.
-fn is_off(status: Status) -> bool
-    ensures { λ r. ⌜ r ≡ isIdle status ⌝ }
-{
-    match status {
-        Status::Idle => true,
-        Status::Running => false,
-        Status::Ended => false,
-        Status::Trapped(_) => false,
-        Status::Waiting(_, _) => false,
-    }
-}
-
 // The line of a thread; none where it is off.
 pub fn put_line(out: &mut [u8], at: usize, thread: u32, status: Status, pc: u32) -> usize
     ensures { λ r. ⌜ wrote r (now (out .exit)) ≡ putsAll (wrote at (now (out .entry))) (lineParts thread status pc) ⌝ }
 {
-    let off = is_off(status);
+    let off = is_idle(status);
     if off {
         return at;
     }
@@ -102,7 +89,7 @@ pub fn put_line(out: &mut [u8], at: usize, thread: u32, status: Status, pc: u32)
 pub fn put_off(out: &mut [u8], at: usize, thread: u32, status: Status) -> usize
     ensures { λ r. ⌜ wrote r (now (out .exit)) ≡ putsAll (wrote at (now (out .entry))) (offPart thread status) ⌝ }
 {
-    let off = is_off(status);
+    let off = is_idle(status);
     if off {
         let at = put_text(out, at, b" ");
         return put_decimal(out, at, thread);

@@ -1,18 +1,20 @@
 // The lines of all threads: one for each that is on, and one for those that are off.
 ghost use mathlib.Core.Path.{_≡_};
 ghost use lib.ListN.{length};
+ghost use Rattle.answer.specs.Refusal.{registerWords};
 ghost use Rattle.text.specs.Buffer.{wrote};
 ghost use Rattle.thread_lines.specs.Lines.{linesParts, offParts, offLine, threadParts};
 ghost use Rattle.thread_lines.specs.Text.{putsAll};
 use crate::line::put_line;
 use crate::line::put_off;
+use answer::ROOM_WORDS;
 use machine::Machine;
 use machine::PROGRAM_COUNTER;
 use text::put_text;
 
 // The lines of the threads that are on.
 fn put_lines(out: &mut [u8], at: usize, machine: Machine, registers: &[u32]) -> usize
-    requires { ⌜ length (now registers) ≡ 8704 ⌝ }
+    requires { ⌜ length (now registers) ≡ registerWords ⌝ }
     ensures { λ r. ⌜ wrote r (now (out .exit)) ≡ putsAll (wrote at (now (out .entry))) (linesParts machine (now (registers .entry)) 8) ⌝ }
 {
     let mut next = at;
@@ -55,7 +57,12 @@ fn put_off_line(out: &mut [u8], at: usize, machine: Machine) -> usize
 }
 
 // Puts the lines of a machine's threads at a place of the buffer, and answers the place behind them. A part that has no room is left out.
-pub fn put_threads(out: &mut [u8], at: usize, machine: Machine, registers: &[u32; 8704]) -> usize
+pub fn put_threads(
+    out: &mut [u8],
+    at: usize,
+    machine: Machine,
+    registers: &[u32; ROOM_WORDS],
+) -> usize
     ensures { λ r. ⌜ wrote r (now (out .exit)) ≡ putsAll (wrote at (now (out .entry))) (threadParts machine (now (registers .entry))) ⌝ }
 {
     let at = put_lines(out, at, machine, registers);

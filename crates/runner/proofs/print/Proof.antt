@@ -10,10 +10,8 @@ print-spec =
     tie.close
     (tie.spec
     (λ c κs. search needs)
-    (λ c. within _ _ _ _ _ (c .write-report .ensures))
-    (λ c. shown _ _ (within _ _ _ _ _ (c .before .write-report .ensures)))
-    (λ c κs. search needs)
     (λ c. search needs)
+    (λ c. within _ _ _ _ _ (c .before .write-report .ensures))
+    (λ c. shown _ _ (within _ _ _ _ _ (c .before .before .write-report .ensures)))
     (λ c κs. search needs)
-    (λ c. search needs)
     (λ c. search needs))

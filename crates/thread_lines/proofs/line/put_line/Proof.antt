@@ -15,7 +15,7 @@ put-line-spec =
     tie.close
     (tie.spec
     (λ c κs. search needs)
-    (λ c. rw (← (c .before .is-off .ensures), c .if1 .taken))
+    (λ c. rw (← (c .before .is-idle .ensures), c .if1 .taken))
     (λ c. search needs)
     (λ c κs. search needs)
     (λ c κs. search needs)
@@ -29,5 +29,5 @@ put-line-spec =
     let q = decimal (x .thread) ∷ [] in
     let r = stateParts (x .status) (x .pc) in
     let w = wrote (x .at) (x .out .now) in
-    rw (← (c .before .before .before .before .before .before .before .before .before .before .before .before .before .before .before .before .before .before .before .is-off .ensures), c .before .before .before .before .before .before .before .before .before .before .before .before .before .before .before .before .before .before .if1 .left)
+    rw (← (c .before .before .before .before .before .before .before .before .before .before .before .before .before .before .before .before .before .before .before .is-idle .ensures), c .before .before .before .before .before .before .before .before .before .before .before .before .before .before .before .before .before .before .if1 .left)
     (after w (p ++ q ++ r) (bytes "\n" ∷ []) (after w (p ++ q) r (after w p q (c .before .before .before .before .before .before .before .before .before .before .before .before .before .before .before .put-text .ensures) (c .before .before .before .before .before .before .before .before .before .before .before .put-decimal .ensures)) (c .before .before .before .before .before .before .before .put-state .ensures)) (c .before .before .put-text2 .ensures))))

@@ -21,6 +21,6 @@ put-off-spec =
     (λ c. search needs)
     (λ c.
     let x = c .before .before .before .before .before .before .before .before .before .before .before .before .args in
-    rw (← (c .before .before .before .before .before .before .before .before .before .before .is-off .ensures), c .before .before .before .before .before .before .before .before .before .if1 .taken)
+    rw (← (c .before .before .before .before .before .before .before .before .before .before .is-idle .ensures), c .before .before .before .before .before .before .before .before .before .if1 .taken)
     (after (wrote (x .at) (x .out .now)) (bytes " " ∷ []) (decimal (x .thread) ∷ []) (c .before .before .before .before .before .before .put-text .ensures) (c .before .before .put-decimal .ensures)))
-    (λ c. rw (← (c .before .is-off .ensures), c .if1 .left)))
+    (λ c. rw (← (c .before .is-idle .ensures), c .if1 .left)))
