@@ -6,7 +6,7 @@ pub use refusal::BLOCK_RECORD;
 pub use refusal::FIXED_PART;
 pub use refusal::MEMORY_BYTES;
 pub use refusal::PROGRAM_WORDS;
-pub use refusal::ROOM_WORDS;
+pub use refusal::REGISTER_WORDS;
 pub use refusal::Verdict;
 pub use refusal::bad_mask;
 pub use refusal::bad_memory;

@@ -13,7 +13,7 @@ pub enum Verdict {
 // The most words of a program, and the words of a register file.
 pub const PROGRAM_WORDS: usize = 16384;
 
-pub const ROOM_WORDS: usize = 8704;
+pub const REGISTER_WORDS: usize = 8704;
 
 // The bytes of a block of memory, and the most of a memory.
 pub const BLOCK_BYTES: usize = 64;
@@ -31,7 +31,7 @@ pub fn bad_program(words: usize) -> bool
 pub fn bad_registers(words: usize) -> bool
     ensures { λ r. ⌜ r ≡ badRegisters words ⌝ }
 {
-    words != ROOM_WORDS
+    words != REGISTER_WORDS
 }
 
 // Whether a memory's length is not allowed.

@@ -2,10 +2,10 @@
 use libc::STDIN_FILENO;
 use libc::STDOUT_FILENO;
 use listing::LONGEST;
-use program::INPUT_ROOM;
+use program::INPUT_BYTES;
 
 fn main() {
-    let mut input = [0u8; INPUT_ROOM];
+    let mut input = [0u8; INPUT_BYTES];
     let filled = files::read_stream(STDIN_FILENO, b"read standard input", &mut input);
     let size = filled.size;
     if filled.failed {

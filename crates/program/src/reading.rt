@@ -8,7 +8,7 @@ ghost use Rattle.text.specs.Buffer.{wrote, writes};
 ghost use Rattle.program.specs.Program.{badBytes, loads};
 
 // Room for a program's bytes: one more than the longest has, so that a longer input is seen.
-pub const INPUT_ROOM: usize = 4 * PROGRAM_WORDS + 1;
+pub const INPUT_BYTES: usize = 4 * PROGRAM_WORDS + 1;
 
 // Whether so many bytes are no program.
 pub fn bad_bytes(bytes: usize) -> bool

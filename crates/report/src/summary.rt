@@ -3,7 +3,7 @@ ghost use mathlib.Core.Path.{_≡_};
 ghost use Rattle.text.specs.Buffer.{wrote, puts, writes};
 ghost use Rattle.thread_lines.specs.Text.{putsAll};
 ghost use Rattle.report.specs.Report.{counted, bodyParts, report};
-use answer::ROOM_WORDS;
+use answer::REGISTER_WORDS;
 use interpreter::Run;
 use interpreter::RunAnswer;
 use text::put_decimal;
@@ -21,7 +21,7 @@ fn put_counted(out: &mut [u8], at: usize, issues: u32) -> usize
 }
 
 // The first line, from the word for the answer on, and the lines of the threads.
-fn put_body(out: &mut [u8], word: &[u8], run: Run, registers: &[u32; ROOM_WORDS]) -> usize
+fn put_body(out: &mut [u8], word: &[u8], run: Run, registers: &[u32; REGISTER_WORDS]) -> usize
     ensures { λ r. ⌜ wrote r (now (out .exit)) ≡ putsAll (wrote 0 (now (out .entry))) (bodyParts (now (word .entry)) (run .issues) (run .machine) (now (registers .entry))) ⌝ }
 {
     let at = put_text(out, 0, word);
@@ -36,7 +36,7 @@ fn put_body(out: &mut [u8], word: &[u8], run: Run, registers: &[u32; ROOM_WORDS]
 pub const LONGEST: usize = 733;
 
 // Puts the text for a run at the start of the buffer, and answers its length: 0 for a refused run, of which nothing is printed.
-pub fn write_report(run: Run, registers: &[u32; ROOM_WORDS], out: &mut [u8; LONGEST]) -> usize
+pub fn write_report(run: Run, registers: &[u32; REGISTER_WORDS], out: &mut [u8; LONGEST]) -> usize
     ensures { λ r. ⌜ wrote r (now (out .exit)) ≡ writes (now (out .entry)) 0 (report run (now (registers .entry))) ⌝ }
 {
     let answer = run.answer;

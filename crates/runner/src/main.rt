@@ -6,7 +6,7 @@ mod sizes;
 
 use answer::MEMORY_BYTES;
 use answer::PROGRAM_WORDS;
-use answer::ROOM_WORDS;
+use answer::REGISTER_WORDS;
 use files::read_stream;
 use files::refuse;
 use image::ReadAnswer;
@@ -16,7 +16,7 @@ use interpreter::StartAnswer;
 use libc::STDIN_FILENO;
 use libc::STDOUT_FILENO;
 use machine::Machine;
-use program::INPUT_ROOM;
+use program::INPUT_BYTES;
 use settings::Settings;
 use sizes::IMAGE_ROOM;
 use sizes::memory_of;
@@ -28,7 +28,7 @@ ghost use Rattle.answer.specs.Refusal.{memoryBytes};
 const IMAGE_IN: i32 = 3;
 
 // Prints how a run ended.
-fn print(run: Run, registers: &[u32; ROOM_WORDS]) {
+fn print(run: Run, registers: &[u32; REGISTER_WORDS]) {
     let mut text = [0u8; report::LONGEST];
     let length = report::write_report(run, registers, &mut text);
     files::write_stream(STDOUT_FILENO, b"write standard output", &text[..length]);
@@ -39,7 +39,7 @@ fn print(run: Run, registers: &[u32; ROOM_WORDS]) {
 fn run(
     settings: Settings,
     program: &[u32],
-    registers: &mut [u32; ROOM_WORDS],
+    registers: &mut [u32; REGISTER_WORDS],
     memory: &mut [u8],
     machine: Machine,
 )
@@ -65,7 +65,7 @@ fn run(
 fn start(settings: Settings, program: &[u32], memory: &mut [u8])
     requires { ⌜ length (now memory) ≤ memoryBytes ⌝ }
 {
-    let mut registers = [0u32; ROOM_WORDS];
+    let mut registers = [0u32; REGISTER_WORDS];
     let started = interpreter::start(settings.mask, &mut registers);
     let answer = started.answer;
     let machine = started.machine;
@@ -90,7 +90,7 @@ fn begin(settings: Settings, program: &[u32]) {
 fn restore(settings: Settings, program: &[u32], image: &[u8], memory: &mut [u8])
     requires { ⌜ length (now memory) ≤ memoryBytes ⌝ }
 {
-    let mut registers = [0u32; ROOM_WORDS];
+    let mut registers = [0u32; REGISTER_WORDS];
     let read = image::read(image, &mut registers, memory);
     let answer = read.answer;
     let machine = read.machine;
@@ -126,7 +126,7 @@ fn go_on(settings: Settings, program: &[u32]) {
 
 // Reads the program, and goes on with it.
 fn load(settings: Settings) {
-    let mut bytes = [0u8; INPUT_ROOM];
+    let mut bytes = [0u8; INPUT_BYTES];
     let filled = read_stream(STDIN_FILENO, b"read the program", &mut bytes);
     let size = filled.size;
     if filled.failed {

@@ -7,7 +7,7 @@ ghost use Rattle.thread_lines.specs.Lines.{linesParts, offParts, offLine
 ghost use Rattle.thread_lines.specs.Text.{putsAll};
 use crate::line::put_line;
 use crate::line::put_off;
-use answer::ROOM_WORDS;
+use answer::REGISTER_WORDS;
 use machine::Machine;
 use machine::PROGRAM_COUNTER;
 use text::put_text;
@@ -61,7 +61,7 @@ pub fn put_threads(
     out: &mut [u8],
     at: usize,
     machine: Machine,
-    registers: &[u32; ROOM_WORDS],
+    registers: &[u32; REGISTER_WORDS],
 ) -> usize
     ensures { λ r. ⌜ wrote r (now (out .exit)) ≡ putsAll (wrote at (now (out .entry))) (threadParts machine (now (registers .entry))) ⌝ }
 {
