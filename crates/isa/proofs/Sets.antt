@@ -1,8 +1,8 @@
 -- A list of vector flags, and the set that the code looks them up in.
 use Prim.Native.Nat.{ℕ, zero, suc, _<_, _≤_}
-use mathlib.Core.Bool.{Bool, true, false, _&&_, _||_}
+use mathlib.Core.Bool.{Bool, true, false, not, _&&_, _||_, false≢true}
 use mathlib.Core.List.{List, [], _∷_}
-use mathlib.Core.Path.{_≡_, refl}
+use mathlib.Core.Path.{_≡_, refl, sym, subst}
 use native.Mathlib.Omega.{arith}
 use borrow.Author.Tests.{ltb-true, ltb-false, ne-eqb}
 use lib.Dec.{eqb, ltb}
@@ -35,42 +35,53 @@ not-in f (x ∷ xs) s l =
 abbrev Agree : List ℕ → ℕ → Type 0
 Agree xs f = inSet (setOf xs) f ≡ isIn f xs
 
-abbrev Agreeing : List ℕ → Type 0
-Agreeing xs = Agree xs 0 × Agree xs 1 × Agree xs 2 × Agree xs 3 × Agree xs 4 × Agree xs 5 × Agree xs 6 × Agree xs 7
+-- they agree on the numbers below n, as a test that is computed
+abbrev same : Bool → Bool → Bool
+same true b = b
+same false b = not b
 
-below-eight : (P : ℕ → Type 0) → (P 0 × P 1 × P 2 × P 3 × P 4 × P 5 × P 6 × P 7) → (f : ℕ) → f < 8 → P f
-below-eight P h zero l = h .0
-below-eight P h (suc zero) l = h .1
-below-eight P h (suc (suc zero)) l = h .2
-below-eight P h (suc (suc (suc zero))) l = h .3
-below-eight P h (suc (suc (suc (suc zero)))) l = h .4
-below-eight P h (suc (suc (suc (suc (suc zero))))) l = h .5
-below-eight P h (suc (suc (suc (suc (suc (suc zero)))))) l = h .6
-below-eight P h (suc (suc (suc (suc (suc (suc (suc zero))))))) l = h .7
-below-eight P h (suc (suc (suc (suc (suc (suc (suc (suc f)))))))) l = absurd (let z : suc (suc (suc (suc (suc (suc (suc (suc f))))))) < 8 = l in omega arith)
+abbrev agreeBelow : List ℕ → ℕ → Bool
+agreeBelow xs zero = true
+agreeBelow xs (suc n) = agreeBelow xs n && same (inSet (setOf xs) n) (isIn n xs)
+
+same-means : (a b : Bool) → same a b ≡ true → a ≡ b
+same-means true true e = refl
+same-means true false e = absurd (false≢true e)
+same-means false true e = absurd (false≢true e)
+same-means false false e = refl
+
+below : (xs : List ℕ) (n f : ℕ) → agreeBelow xs n ≡ true → f < n → Agree xs f
+below xs zero f e l = absurd (omega arith)
+below xs (suc n) f e l = go (ltb f n) refl (below xs n f (and-left (agreeBelow xs n) (same (inSet (setOf xs) n) (isIn n xs)) e))
+  where
+    go : (b : Bool) → ltb f n ≡ b → (f < n → Agree xs f) → Agree xs f
+    go true h k = k (ltb-true f n h)
+    go false h k =
+        let q : f ≡ n = omega (arith, ltb-false f n h) in
+        subst (Agree xs) (sym q) (same-means _ _ (and-right (agreeBelow xs n) (same (inSet (setOf xs) n) (isIn n xs)) e))
 
 -- they agree on every number, if they do on those below 8 and the list has no others
-agree : (xs : List ℕ) → small xs ≡ true → Agreeing xs → (f : ℕ) → Agree xs f
+agree : (xs : List ℕ) → small xs ≡ true → agreeBelow xs 8 ≡ true → (f : ℕ) → Agree xs f
 agree xs s h f = go (ltb f 8) refl
   where
     go : (b : Bool) → ltb f 8 ≡ b → Agree xs f
-    go true e = below-eight (Agree xs) h f (ltb-true f 8 e)
+    go true e = below xs 8 f h (ltb-true f 8 e)
     go false e = rw (e, not-in f xs s (ltb-false f 8 e))
 
 pub r-agrees : (op : Operation) (f : ℕ) → Agree (flagsR op) f
-r-agrees (Binary op) = agree (flagsR (Binary op)) refl (refl, refl, refl, refl, refl, refl, refl, refl)
-r-agrees (Unary Clz) = agree (flagsR (Unary Clz)) refl (refl, refl, refl, refl, refl, refl, refl, refl)
-r-agrees (Unary Ctz) = agree (flagsR (Unary Ctz)) refl (refl, refl, refl, refl, refl, refl, refl, refl)
-r-agrees (Unary Move) = agree (flagsR (Unary Move)) refl (refl, refl, refl, refl, refl, refl, refl, refl)
-r-agrees (Unary Sext8) = agree (flagsR (Unary Sext8)) refl (refl, refl, refl, refl, refl, refl, refl, refl)
-r-agrees (Unary Sext16) = agree (flagsR (Unary Sext16)) refl (refl, refl, refl, refl, refl, refl, refl, refl)
-r-agrees (Compare op) = agree (flagsR (Compare op)) refl (refl, refl, refl, refl, refl, refl, refl, refl)
-r-agrees Shuffle = agree (flagsR Shuffle) refl (refl, refl, refl, refl, refl, refl, refl, refl)
-r-agrees GetLane = agree (flagsR GetLane) refl (refl, refl, refl, refl, refl, refl, refl, refl)
+r-agrees (Binary op) = agree (flagsR (Binary op)) refl refl
+r-agrees (Unary Clz) = agree (flagsR (Unary Clz)) refl refl
+r-agrees (Unary Ctz) = agree (flagsR (Unary Ctz)) refl refl
+r-agrees (Unary Move) = agree (flagsR (Unary Move)) refl refl
+r-agrees (Unary Sext8) = agree (flagsR (Unary Sext8)) refl refl
+r-agrees (Unary Sext16) = agree (flagsR (Unary Sext16)) refl refl
+r-agrees (Compare op) = agree (flagsR (Compare op)) refl refl
+r-agrees Shuffle = agree (flagsR Shuffle) refl refl
+r-agrees GetLane = agree (flagsR GetLane) refl refl
 
 pub i-agrees : (op : Operation) (f : ℕ) → Agree (flagsI op) f
-i-agrees (Binary op) = agree (flagsI (Binary op)) refl (refl, refl, refl, refl, refl, refl, refl, refl)
-i-agrees (Unary op) = agree (flagsI (Unary op)) refl (refl, refl, refl, refl, refl, refl, refl, refl)
-i-agrees (Compare op) = agree (flagsI (Compare op)) refl (refl, refl, refl, refl, refl, refl, refl, refl)
-i-agrees Shuffle = agree (flagsI Shuffle) refl (refl, refl, refl, refl, refl, refl, refl, refl)
-i-agrees GetLane = agree (flagsI GetLane) refl (refl, refl, refl, refl, refl, refl, refl, refl)
+i-agrees (Binary op) = agree (flagsI (Binary op)) refl refl
+i-agrees (Unary op) = agree (flagsI (Unary op)) refl refl
+i-agrees (Compare op) = agree (flagsI (Compare op)) refl refl
+i-agrees Shuffle = agree (flagsI Shuffle) refl refl
+i-agrees GetLane = agree (flagsI GetLane) refl refl
