@@ -3,7 +3,7 @@ use Prim.Native.Nat.{ℕ}
 use mathlib.Core.List.{List, [], _∷_}
 use mathlib.Core.Path.{_≡_, ap, _∙_}
 use Rattle.image.specs.Answer.{readAnswered}
-use Rattle.image.specs.Calls.{Reading, restored as handedBack}
+use Rattle.image.specs.Calls.{ReadResult, restored as handedBack}
 use Rattle.image.specs.Opening.{recordBytes}
 use Rattle.image.specs.declared.outcome.Read.{Read}
 use Rattle.interpreter.specs.Answer.{answered, startAnswered}
@@ -23,6 +23,6 @@ pub run-handed : (r : Run) {o : Outcome} {n : ℕ} {registers memory opening : L
     → outcome r registers memory ≡ o → ran 0 (n ∷ r .issues ∷ []) registers memory opening ≡ done o
 run-handed r {registers = registers} {memory = memory} e f g = (λ i. ran 0 (e i ∷ r .issues ∷ []) registers memory (f i)) ∙ ap done g
 
-pub read-handed : (r : Read) {x : Reading} {n : ℕ} {registers memory opening : List ℕ} → n ≡ numberOf (readAnswered (r .answer)) → opening ≡ recordBytes (r .machine)
+pub read-handed : (r : Read) {x : ReadResult} {n : ℕ} {registers memory opening : List ℕ} → n ≡ numberOf (readAnswered (r .answer)) → opening ≡ recordBytes (r .machine)
     → handedBack r registers memory ≡ x → restored n registers memory opening ≡ restoring x
 read-handed r {registers = registers} {memory = memory} e f g = (λ i. restored (e i) registers memory (f i)) ∙ ap restoring g

@@ -3,7 +3,7 @@ use Prim.Native.Nat.{ℕ}
 use mathlib.Core.List.{List}
 use Rattle.answer.specs.Refusal.{refusedOr}
 use Rattle.machine.specs.State.{state}
-use Rattle.image.specs.Calls.{Reading, read}
+use Rattle.image.specs.Calls.{ReadResult, read}
 use Rattle.image.specs.Image.{image, machineIn}
 use Rattle.image.specs.Opening.{noBlocks, recordBytes}
 use Rattle.answer.specs.Left.{Left, left}
@@ -28,7 +28,7 @@ abbrev pub restored : ℕ → List ℕ → List ℕ → List ℕ → Restored
 restored answer registers memory opening = record { answer = answer; registers = registers; memory = memory; opening = opening }
 
 -- "start and image reading, which get none, hand back a record with every number 0"
-abbrev pub restoring : Reading → Restored
+abbrev pub restoring : ReadResult → Restored
 restoring r = restored (numberOf (r .answer)) (r .left .registers) (r .left .memory) (recordBytes (r .left .machine))
 
 unfoldable pub readCall : List ℕ → List ℕ → List ℕ → Restored

@@ -182,7 +182,7 @@ module _ (c : Context) (regs memory : List ℕ) where
         attempts c regs (g .answer) (λ x. withLanesOn regs t register (g .lanes)) (λ x. own-lanes t regs register (g .lanes) l)
         (load-lanes-attempted memory (scalar regs t base) offset)
 
-    -- a store: the registers are those of an attempt that leads on to the registers itself
+    -- a store: the registers are those of an attempt that leads on to the same registers
     leaves : (o : StoreResult) → Attempted (o .answer) → length (o .memory) ≡ length memory
         → UnlessGoesOn (stored c regs o .effect) (o .memory ≡ memory) → Lawful t regs memory (stored c regs o)
     leaves o h k u =

@@ -33,7 +33,7 @@ apart t u k a b n (inl x) (inr y) = omega arith
 apart t u k a b n (inr x) (inl y) = omega arith
 apart t u k a b n (inr x) (inr y) = n (omega arith)
 
--- room became x, with none but thread t's registers written
+-- regs became x, with none but thread t's registers written
 pub record Own (t : ℕ) (regs x : List ℕ) : Type 0 where
   pub size : length x ≡ length regs
   pub elsewhere : (k : ℕ) → (PlaceOf t k → ⊥) → getD x k 0 ≡ getD regs k 0

@@ -33,6 +33,6 @@ withProgramCounter regs t address = withScalar regs t programCounterRegister add
 unfoldable pub withLanesOn : List ℕ → ℕ → ℕ → List ℕ → List ℕ
 withLanesOn regs t i v = withVector regs t i (blended (laneMask regs t) v (vector regs t i))
 
--- a thread's registers are all in the registers
+-- a thread's registers are all in the register file
 abbrev pub InRegisters : List ℕ → ℕ → Type 0
 InRegisters regs t = (length regs ≡ registerWords) × (t < 8)

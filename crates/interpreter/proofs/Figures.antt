@@ -6,13 +6,13 @@ use Rattle.execution.specs.Immediate.{moveImmediate}
 use Rattle.execution.specs.Issue.{executeWord}
 use Rattle.execution.specs.Operation.{binaryInto, unaryInto, compareInto, operateR}
 use Rattle.word_layout.specs.Layout.{signed}
-use Rattle.isa.specs.Read.{read, readR, readI, readMovei, readJ, readC, readM, asR, asI, asMovei, asJ, asC, asM, acceptedRun, listed}
+use Rattle.isa.specs.Read.{read, readR, readI, readMovei, readJ, readC, readM, asR, asI, asMovei, asJ, asC, asM, guarded, listed}
 use Rattle.isa.specs.Table.{find}
 use Rattle.isa.specs.Test.{all}
 
 pub figures-hold : FiguresHold
 unfolding
-    read readR readI readMovei readJ readC readM asR asI asMovei asJ asC asM acceptedRun listed find all signed zerosAbove
+    read readR readI readMovei readJ readC readM asR asI asMovei asJ asC asM guarded listed find all signed zerosAbove
     executeWord operateR binaryInto unaryInto compareInto moveImmediate
 figures-hold = (
   refl,

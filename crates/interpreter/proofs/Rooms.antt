@@ -8,7 +8,7 @@ use lib.ListN.{length, set}
 use Rattle.machine.specs.State.{scalarIndex, laneMaskRegister}
 use Rattle.interpreter.specs.Start.{zeroes, withMasks}
 
--- the registers with its first i words 0
+-- the register file with its first i words 0
 unfoldable pub cleared : List ℕ → ℕ → List ℕ
 cleared regs zero = regs
 cleared [] (suc i) = []

@@ -13,7 +13,7 @@ use Rattle.machine.specs.Scheduler.{choice, withLast, someWaits}
 use Rattle.machine.specs.WellFormed.{wellFormed}
 use Rattle.interpreter.specs.Answer.{stopped, stuck, spent}
 use Rattle.interpreter.specs.Choosing.{Issue, ifChosen, issued, issues, reached, idleEnding, endingAt}
-use Rattle.interpreter.specs.Claims.{StaysWellFormed, MaskStays, LengthsStay, WithinBudget, SpendsBudget, Joined, Composes, numberIn, AnswersNumber, TakenWellFormed, NoBudget}
+use Rattle.interpreter.specs.Claims.{StaysWellFormed, MaskStays, LengthsStay, WithinBudget, SpendsBudget, Composed, Composes, numberIn, AnswersNumber, TakenWellFormed, NoBudget}
 use Rattle.answer.specs.Refusal.{refusedOr}
 use Rattle.interpreter.specs.Run.{number, runIssues, runReached, runAnswer}
 use Rattle.interpreter.specs.Types.{Choice, Chosen, NoneRunning}
@@ -163,7 +163,7 @@ pub joins : Composes
 unfolding runIssues runReached runAnswer
 joins p n m s = go (number p s) refl
   where
-    go : (o : Option ℕ) → number p s ≡ o → Joined p n m s
+    go : (o : Option ℕ) → number p s ≡ o → Composed p n m s
     go none e =
         let f = taken-still p n s e in
         record {

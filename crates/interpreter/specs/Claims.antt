@@ -83,13 +83,13 @@ abbrev pub EndsByRecord : Type 0
 EndsByRecord = (p : List ℕ) (b : ℕ) (s : State) → number p s ≡ none → EndsBy (runReached p b s .machine) (runAnswer p b s)
 
 -- two runs of a program, one after the other with budgets n and m, are one with the budget n + m
-pub record Joined (p : List ℕ) (n m : ℕ) (s : State) : Type 0 where
+pub record Composed (p : List ℕ) (n m : ℕ) (s : State) : Type 0 where
   pub issues : runIssues p (n + m) s ≡ runIssues p n s ++ runIssues p m (runReached p n s)
   pub reached : runReached p (n + m) s ≡ runReached p m (runReached p n s)
   pub answer : runAnswer p (n + m) s ≡ runAnswer p m (runReached p n s)
 
 abbrev pub Composes : Type 0
-Composes = (p : List ℕ) (n m : ℕ) (s : State) → Joined p n m s
+Composes = (p : List ℕ) (n m : ℕ) (s : State) → Composed p n m s
 
 -- What a refusal tells, and a run with no budget.
 

@@ -1,9 +1,9 @@
--- What comes of an attempt to access memory: something, or a trap.
+-- What comes of an attempt to access memory: something, or a fault.
 use Prim.Native.Nat.{ℕ}
 use Rattle.answer.specs.Reason.{misaligned, outside-memory}
 use Rattle.memory.specs.Types.{Place, Access, Loaded}
 
--- a trap has its reason
+-- a fault has the reason that its thread traps with
 pub data Attempt (A : Type 0) : Type 0 where
   done : A → Attempt A
   fault : ℕ → Attempt A

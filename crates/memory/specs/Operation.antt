@@ -63,7 +63,7 @@ changed (fault reason) m f = record { answer = fault reason; memory = m }
 unfoldable pub store : StoreOp → List ℕ → ℕ → ℕ → ℕ → StoreResult
 store op m base offset value = changed (scalarPlace (bytesStored op) m base offset) m (λ a. withNumber (bytesStored op) m a value)
 
--- what a vector load gives: no lanes with a trap
+-- what a vector load gives: no lanes with a fault
 pub record VectorLoad : Type 0 where
   pub answer : Attempt (Unit {0})
   pub lanes : List ℕ

@@ -1,4 +1,4 @@
--- `set_lanes` is safe: the registers keeps its length.
+-- `set_lanes` is safe: the register file keeps its length.
 use Prim.Native.Nat.{_-_, _≤_}
 use mathlib.Core.Path.{_≡_}
 use borrow.Author.Needs.{needs}
