@@ -36,7 +36,7 @@ extern "C" {
 
 /* Raised whenever an array's length, the place of something in it or the meaning of a number changes: a board's program can ask for the
  * one that it was written for. */
-#define KORVAMMEL_API 1
+#define KORVAMMEL_API 2
 
 /* Words of the register room: thread t (0..7), scalar i at 64t+i; vector i, lane j at 512+1024t+16i+j. */
 #define KORVAMMEL_REGISTERS 8704
@@ -68,7 +68,7 @@ extern "C" {
 /* An instruction is six numbers: its format (0 R, 1 I, 2 MOVEI, 3 J, 4 C, 5 M), its opcode in that format, its vector flags, and
  *   R      d, a, b              flags of d, a and b, d highest
  *   I      d, a, immediate      flags of d and a, d highest
- *   MOVEI  d, immediate, 0      the flag of d
+ *   MOVEI  d, immediate, 0      the flag of d; movei's immediate is signed, -32768 to 32767, moveil's and moveih's are 0 to 65535
  *   J      register, offset, 0  0
  *   C      first, second, 0     0
  *   M      register, base, offset  0

@@ -5,7 +5,7 @@
 
 #include "korvammel.h"
 
-#if KORVAMMEL_API != 1
+#if KORVAMMEL_API != 2
 #error "night.c was written for version 1 of the library"
 #endif
 

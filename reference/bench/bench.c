@@ -48,7 +48,7 @@ static const uint32_t mixed_words[] = {
     0x0408108E, // add v2,v1,v2
     0xA8081200, // storev v2,64(s1)
     0x12EC1086, // cmplt s59,v1,v2: the lane mask
-    0x62EFFFFC, // movei s59,0xFFFF: all lanes on
+    0x62EFFFFC, // movei s59,-1: all lanes on
     0x440C3008, // addi s3,s3,1
     0x82101020, // load32 s4,4(s1)
     0x061440C0, // mullo s5,s4,s3

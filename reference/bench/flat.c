@@ -217,6 +217,7 @@ struct operand {
     }                                                                               \
     GO_ON;
 #define HALF (w >> 2 & 0xFFFF)
+#define SIGNED_HALF ((uint32_t)((int32_t)(w << 14) >> 16))
 
 // The labels of M. An address is a sum in 64 bits, where a negative one is past every memory.
 #define PLACE(SIZE)                                                    \
@@ -307,7 +308,7 @@ getlane_immediate:
 
     MOVE_IMMEDIATE(moveil, 0xFFFF0000u, HALF)
     MOVE_IMMEDIATE(moveih, 0x0000FFFFu, HALF << 16)
-    MOVE_IMMEDIATE(movei, 0u, HALF)
+    MOVE_IMMEDIATE(movei, 0u, SIGNED_HALF)
 
 // A target is a sum modulo 2^32, where a negative one is past every program.
 #define TARGET (pc + (uint32_t)((int32_t)(w << 14) >> 14))

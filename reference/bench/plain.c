@@ -153,7 +153,8 @@ static struct outcome do_i(uint32_t w, uint32_t *s, uint32_t *v) {
 }
 
 static struct outcome do_movei(uint32_t w, uint32_t *s, uint32_t *v) {
-    uint32_t op = bits(w, 26, 24), flag = bits(w, 1, 1), d = bits(w, 23, 18), n = bits(w, 17, 2);
+    uint32_t op = bits(w, 26, 24), flag = bits(w, 1, 1), d = bits(w, 23, 18);
+    uint32_t n = op == 2 ? (uint32_t)signed_bits(w, 17, 2) : bits(w, 17, 2);
     if (bits(w, 0, 0) || op > 2 || (!flag && d == 63)) return trap(3);
     uint32_t keep = op == 0 ? 0xFFFF0000u : op == 1 ? 0x0000FFFFu : 0, put = op == 1 ? n << 16 : n;
     if (flag) {

@@ -271,7 +271,7 @@ impl Issue<'_> {
                 Ok(Next::On)
             }
             Instruction::Movei { opcode, flag, d, immediate } => {
-                self.move_immediate(opcode, flag == 1, d, immediate);
+                self.move_immediate(opcode, flag == 1, d, immediate as u32);
                 Ok(Next::On)
             }
             Instruction::J { opcode, register, offset } => self.jump(opcode, register, offset),
@@ -379,6 +379,19 @@ mod tests {
         assert_eq!(binary(9, 0x8000_0000, 33), 0xC000_0000);
         assert_eq!((unary(12, 1), unary(12, 0), unary(13, 0)), (31, 32, 32));
         assert!(compare(18, all, 0) && !compare(22, all, 0));
+    }
+
+    /// "0x62060000 movei s1", T-02: "becomes 0xFFFF8000." Also in lanes that are on, and of moveil and moveih not.
+    #[test]
+    fn immediates() {
+        for (word, scalar) in [(0x62060000, 0xFFFF_8000), (0x6207FFFC, 0xFFFF_FFFF), (0x60060000, 0x1234_8000), (0x61060000, 0x8000_5678)] {
+            let (mut room, mut memory) = (room(), vec![0; 64]);
+            let mut record = start(1, &mut room).unwrap();
+            (room[59], room[1]) = (5, 0x1234_5678);
+            room[512 + 16..512 + 32].fill(0x1234_5678);
+            assert_eq!(run(&[word, word | 2], &mut room, &mut memory, &mut record, 2), (Ok(Ending::Spent), 2));
+            assert_eq!((room[1], room[512 + 16], room[512 + 17], room[512 + 18]), (scalar, scalar, 0x1234_5678, scalar));
+        }
     }
 
     /// "s59 = 5, v1[j] = j, s2 = 10, v3 all 7: add v3,v1,s2 gives 10 and 12 in lanes 0 and 2, else 7."

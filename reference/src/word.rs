@@ -1,11 +1,11 @@
-//! Instruction words, read and written (document 01, "The words").
+//! Instruction words, read and written (document 01, "The words"; document 02, T-02).
 
 /// An instruction as a line of the paper has it, opcodes as the paper numbers them. Its fields may hold what no word has room for.
 #[derive(Clone, Copy, PartialEq, Eq, Debug)]
 pub enum Instruction {
     R { opcode: u8, flags: u8, d: u8, a: u8, b: u8 },
     I { opcode: u8, flags: u8, d: u8, a: u8, immediate: i32 },
-    Movei { opcode: u8, flag: u8, d: u8, immediate: u32 },
+    Movei { opcode: u8, flag: u8, d: u8, immediate: i32 },
     J { opcode: u8, register: u8, offset: i32 },
     C { opcode: u8, first: u8, second: u8 },
     M { opcode: u8, register: u8, base: u8, offset: i32 },
@@ -120,7 +120,9 @@ fn read_movei(w: u32) -> Reading {
     let flag = bits(w, 1, 1) as u8;
     let d = bits(w, 23, 18) as u8;
     let fine = bits(w, 0, 0) == 0 && opcode <= 2 && !(flag == 0 && d == 63);
-    defined_if(fine, Instruction::Movei { opcode, flag, d, immediate: bits(w, 17, 2) })
+    // T-02: "From now on movei extends the sign into the high half. .. the other two stay."
+    let immediate = if opcode == 2 { signed_bits(w, 17, 2) } else { bits(w, 17, 2) as i32 };
+    defined_if(fine, Instruction::Movei { opcode, flag, d, immediate })
 }
 
 fn read_j(w: u32) -> Reading {
@@ -198,7 +200,7 @@ fn laid_out(instruction: Instruction) -> u32 {
                 | at(flags as u32, 1, 2)
         }
         Instruction::Movei { opcode, flag, d, immediate } => {
-            0b01100 << 27 | at(opcode as u32, 24, 3) | at(d as u32, 18, 6) | at(immediate, 2, 16) | at(flag as u32, 1, 1)
+            0b01100 << 27 | at(opcode as u32, 24, 3) | at(d as u32, 18, 6) | at(immediate as u32, 2, 16) | at(flag as u32, 1, 1)
         }
         Instruction::J { opcode, register, offset } => {
             0b01110 << 27 | at(opcode as u32, 24, 3) | at(register as u32, 18, 6) | at(offset as u32, 0, 18)
@@ -282,7 +284,7 @@ pub fn name(instruction: Instruction) -> String {
 mod tests {
     use super::*;
 
-    /// "0x040C1080 is add s3,s1,s2; .. 0x21000000 not fitted."
+    /// "0x040C1080 is add s3,s1,s2; .. 0x21000000 not fitted." T-02: "the case 0x62060000 becomes 0xFFFF8000."
     #[test]
     fn figures() {
         let defined = |w, i| {
@@ -293,7 +295,7 @@ mod tests {
         defined(0x040C108E, Instruction::R { opcode: 4, flags: 0b111, d: 3, a: 1, b: 2 });
         defined(0x12EC1086, Instruction::R { opcode: 18, flags: 0b011, d: 59, a: 1, b: 2 });
         defined(0x44041FF8, Instruction::I { opcode: 4, flags: 0b00, d: 1, a: 1, immediate: -1 });
-        defined(0x62060000, Instruction::Movei { opcode: 2, flag: 0, d: 1, immediate: 0x8000 });
+        defined(0x62060000, Instruction::Movei { opcode: 2, flag: 0, d: 1, immediate: -0x8000 });
         defined(0x82081000, Instruction::M { opcode: 2, register: 2, base: 1, offset: 0 });
         assert_eq!(read(0x00000000), Reading::Undefined);
         assert_eq!(read(0x04FC0000), Reading::Undefined);
@@ -309,6 +311,16 @@ mod tests {
         assert_eq!(write(Instruction::I { opcode: 4, flags: 0, d: 1, a: 0, immediate: 256 }), None);
         assert_eq!(write(Instruction::J { opcode: 0, register: 1, offset: 0 }), None);
         assert_eq!(write(Instruction::C { opcode: 2, first: 1, second: 0 }), None);
+    }
+
+    /// T-02: "In writing it runs from -32,768 to 32,767; the other two stay."
+    #[test]
+    fn half_words() {
+        let has_word = |opcode, immediate| write(Instruction::Movei { opcode, flag: 0, d: 1, immediate }).is_some();
+        for (opcode, least, most) in [(0, 0, 65_535), (1, 0, 65_535), (2, -32_768, 32_767)] {
+            assert!(has_word(opcode, least) && has_word(opcode, most));
+            assert!(!has_word(opcode, least - 1) && !has_word(opcode, most + 1));
+        }
     }
 
     /// Every word that is read is written again, on a spread of words.

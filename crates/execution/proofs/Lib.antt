@@ -4,4 +4,5 @@ pub mod Fitting
 pub mod Issues
 pub mod OwnRegisters
 pub mod Effects
+pub mod Moving
 pub mod Claims

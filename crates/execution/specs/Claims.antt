@@ -1,16 +1,20 @@
 -- What is proved of one issue, for other crates to cite.
-use Prim.Native.Nat.{ℕ, _≤_, _<_}
-use mathlib.Core.Bool.{true, false}
+use Prim.Native.Nat.{ℕ, _+_, _/_, _^_, _≤_, _<_}
+use mathlib.Core.Bool.{true, false, cond}
 use mathlib.Core.Path.{_≡_}
 use mathlib.Core.List.{List}
 use lib.ListN.{length, getD}
 use Rattle.answer.specs.Refusal.{programWords, registerWords}
+use Rattle.bits.specs.Bit.{isSet}
+use Rattle.word_layout.specs.Layout.{bits}
 use Rattle.machine.specs.Claims.{KeepsRecord}
 use Rattle.machine.specs.Machine.{statusAt}
 use Rattle.machine.specs.Scheduler.{runs}
 use Rattle.machine.specs.State.{State, laneIndex}
+use Rattle.vector.specs.Lanes.{isOn}
 use Rattle.execution.specs.Issue.{perform, issue, issueSetsStatus}
-use Rattle.execution.specs.Registers.{scalar}
+use Rattle.execution.specs.Jump.{inProgram}
+use Rattle.execution.specs.Registers.{scalar, laneMask, programCounter}
 use Rattle.execution.specs.Types.{Trapped}
 
 -- what an issue makes of the record
@@ -43,6 +47,27 @@ pub record TrapsOnly (s : State) (t : ℕ) (n : State) : Type 0 where
 abbrev pub TrapsAlone : Type 0
 TrapsAlone = (p : List ℕ) (s : State) (t reason : ℕ) → runs (s .machine) t ≡ true → statusAt (perform p s t .machine) t ≡ Trapped reason
     → TrapsOnly s t (perform p s t)
+
+-- The next word of thread t is w, one of movei: by its bits alone.
+pub record NextIsMovei (p : List ℕ) (s : State) (t w : ℕ) : Type 0 where
+  pub thread : t < 8
+  pub regs : length (s .registers) ≡ registerWords
+  pub in-program : inProgram (length p) (programCounter (s .registers) t) ≡ true
+  pub word : getD p (programCounter (s .registers) t / 4) 0 ≡ w
+  pub format-and-opcode : w / 2 ^ 24 ≡ 0x62
+  pub bit0 : bits w 0 0 ≡ 0
+
+-- its bits 17-2, and above them sixteen bits that are all as bit 17 is
+abbrev pub signExtended : ℕ → ℕ
+signExtended w = cond (isSet w 17) (0xFFFF0000 + bits w 17 2) (bits w 17 2)
+
+-- "From now on movei extends the sign into the high half" (02, T-02): an issue of it gives that number, whatever the register held, a scalar
+-- or a lane that is on. A reader and a writer that agreed on another number would fail here.
+pub record MoveiExtends : Type 0 where
+  pub scalars : (p : List ℕ) (s : State) (t w : ℕ) → NextIsMovei p s t w → bits w 1 1 ≡ 0 → bits w 23 18 < 63
+      → scalar (perform p s t .registers) t (bits w 23 18) ≡ signExtended w
+  pub lanes : (p : List ℕ) (s : State) (t w j : ℕ) → NextIsMovei p s t w → bits w 1 1 ≡ 1 → j < 16
+      → isOn (laneMask (s .registers) t) j ≡ true → getD (perform p s t .registers) (laneIndex t (bits w 23 18) j) 0 ≡ signExtended w
 
 -- a thread has the same registers in two register files
 pub record SameRegisters (t : ℕ) (before after : List ℕ) : Type 0 where

@@ -1,13 +1,14 @@
 // Moves of an immediate into a register.
 ghost use mathlib.Core.Path.{_≡_};
-ghost use Prim.Native.Nat.{_<_, _^_};
+ghost use Prim.Native.Nat.{_<_};
+ghost use Rattle.isa.specs.Claims.{HalfWord};
 ghost use Rattle.execution.specs.Immediate.{replaced, replacedLanes, moveImmediate};
 ghost use Rattle.execution.specs.Registers.{InRegisters};
 use crate::registers;
 use isa::MoveiOp;
 
 fn replace(op: MoveiOp, old: u32, n: u32) -> u32
-    requires { ⌜ n < 2 ^ 16 ⌝ }
+    requires { ⌜ HalfWord op n ⌝ }
     ensures { λ r. ⌜ r ≡ replaced op old n ⌝ }
 {
     match op {
@@ -18,7 +19,7 @@ fn replace(op: MoveiOp, old: u32, n: u32) -> u32
 }
 
 fn replace_lanes(op: MoveiOp, old: [u32; 16], n: u32) -> [u32; 16]
-    requires { ⌜ n < 2 ^ 16 ⌝ }
+    requires { ⌜ HalfWord op n ⌝ }
     ensures { λ r. ⌜ r ≡ replacedLanes op old n ⌝ }
 {
     let mut v = [0u32; 16];
@@ -29,7 +30,7 @@ fn replace_lanes(op: MoveiOp, old: [u32; 16], n: u32) -> [u32; 16]
 }
 
 pub fn move_immediate(regs: &mut [u32], t: usize, op: MoveiOp, flag: bool, d: u32, n: u32)
-    requires { ⌜ InRegisters (now regs) t × (d < 64) × (n < 2 ^ 16) ⌝ }
+    requires { ⌜ InRegisters (now regs) t × (d < 64) × HalfWord op n ⌝ }
     ensures { λ _. ⌜ now (regs .exit) ≡ moveImmediate (now (regs .entry)) t op flag d n ⌝ }
 {
     if flag {

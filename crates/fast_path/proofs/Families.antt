@@ -10,6 +10,7 @@ use Rattle.alu.specs.Compare.{compare}
 use Rattle.alu.specs.Unary.{unary}
 use Rattle.isa.proofs.Both.{and-both}
 use Rattle.word_layout.specs.Layout.{bits, signed}
+use Rattle.isa.specs.Number.{numberMovei}
 use Rattle.isa.specs.Rule.{flagsUnary, allowsR, allowsI, allowsJ, allowsM}
 use Rattle.isa.specs.Test.{isIn}
 use Rattle.isa.specs.Table.{rowR, rowMovei, rowJ, rowM}
@@ -129,7 +130,7 @@ module _ (t : ℕ) (regs : List ℕ) (w : ℕ) where
   compare-I op h low = writes-compare op immediate (operates-I (Compare op) h low (free-register (bits w 23 18) (h .free)))
 
   pub moves : (op : MoveiOp) → HasOpcode w 0x60 8 (rowMovei op .opcode) → w % 4 ≡ 0 →
-      ActsAnywhere t w regs (Write (replaced op (scalar regs t (bits w 23 18)) (bits w 17 2)))
+      ActsAnywhere t w regs (Write (replaced op (scalar regs t (bits w 23 18)) (numberMovei op (bits w 17 2))))
   unfolding executeWord moveImmediate
   moves op h low memory pc enabled words = rw (plain-Movei w op h low)
 

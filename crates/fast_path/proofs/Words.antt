@@ -10,6 +10,7 @@ use Rattle.isa.proofs.Answers.{accept, accept-one}
 use Rattle.isa.proofs.Formats.{is-R, is-I, is-Movei, is-J, is-M}
 use Rattle.isa.proofs.Tables.{finds-R, finds-Movei, finds-J, finds-M}
 use Rattle.word_layout.specs.Layout.{bits, signed}
+use Rattle.isa.specs.Number.{numberMovei}
 use Rattle.isa.specs.Read.{reads, read, readR, asR, readI, asI, readMovei, asMovei, readJ, asJ, readM, asM, listed}
 use Rattle.isa.specs.Rule.{programCounterRegister as noDestination, allowsR, allowsI, allowsJ, allowsM}
 use Rattle.isa.specs.Table.{rowR, rowMovei, rowJ, rowM}
@@ -49,7 +50,7 @@ module _ (w : ℕ) where
       is-I reads w format ∙ rw (opcode, finds-R op, flags, bit0) (accept _ _ (refl, (allowed, tt)))
 
   pub plain-Movei : (op : MoveiOp) → HasOpcode w 0x60 8 (rowMovei op .opcode) → w % 4 ≡ 0 →
-      read w ≡ given (Movei op 0 (bits w 23 18) (bits w 17 2))
+      read w ≡ given (Movei op 0 (bits w 23 18) (numberMovei op (bits w 17 2)))
   unfolding read readMovei asMovei listed
   plain-Movei op h low =
       let byte = h .byte in

@@ -1,9 +1,9 @@
 // Families of words on scalars: what a word does, or that it is left to the slow path.
 ghost use mathlib.Core.Bool.{cond};
 ghost use mathlib.Core.Path.{_≡_};
-ghost use Prim.Native.Nat.{_<_, _^_};
 ghost use Rattle.execution.specs.Immediate.{replaced};
 ghost use Rattle.execution.specs.Registers.{InRegisters};
+ghost use Rattle.isa.specs.Claims.{HalfWord};
 ghost use Rattle.isa.specs.Table.{rowR, rowMovei, rowJ, rowM};
 ghost use Rattle.fast_path.specs.Action.{HasOpcode, ActsOn, ActsAnywhere};
 ghost use Rattle.fast_path.specs.Types.{Next, Jump, Binary, Unary, Compare, Load};
@@ -85,7 +85,7 @@ pub fn compare_i(regs: &[u32], t: usize, w: u32, op: CompareOp) -> Action
 }
 
 fn replace(op: MoveiOp, old: u32, n: u32) -> u32
-    requires { ⌜ n < 2 ^ 16 ⌝ }
+    requires { ⌜ HalfWord op n ⌝ }
     ensures { λ r. ⌜ r ≡ replaced op old n ⌝ }
 {
     match op {
@@ -103,7 +103,7 @@ pub fn move_immediate(regs: &[u32], t: usize, w: u32, op: MoveiOp) -> Action
         return Action::Defer;
     }
     let old = registers::operand_d(regs, t, w);
-    Action::Write(replace(op, old, w / 4 % 65536))
+    Action::Write(replace(op, old, isa::movei_number(op, w)))
 }
 
 // A branch, taken or not.

@@ -16,11 +16,13 @@ use Rattle.isa.proofs.Formats.{is-R, is-I, is-Movei, is-J, is-C, is-M}
 use Rattle.isa.proofs.Parts.{covers, pack-unpack}
 use Rattle.isa.proofs.RoundTrip.{exact}
 use Rattle.word_layout.proofs.Signed.{signed-truncated}
+use Rattle.isa.proofs.Number.{number-field}
 use Rattle.isa.proofs.Tables.{finds-R, finds-Movei, finds-J, finds-C, finds-M}
 use Rattle.isa.specs.Claims.{Exact}
 use Rattle.word_layout.specs.Layout.{Part, bits, width, unpack, truncated, signed, layoutR, layoutI, layoutMovei, layoutJ, layoutC, layoutM}
-use Rattle.isa.specs.Rule.{allowsI, allowsJ, allowsM}
-use Rattle.isa.specs.Table.{rowR, rowI, rowMovei, rowJ, rowC, rowM}
+use Rattle.isa.specs.Number.{fieldMovei}
+use Rattle.isa.specs.Rule.{allowsI, allowsMovei, allowsJ, allowsM}
+use Rattle.isa.specs.Table.{find, rowR, rowI, rowMovei, rowJ, rowC, rowM}
 use Rattle.isa.specs.Test.{all}
 use Rattle.isa.specs.Write.{write, writeR, writeI, writeMovei, writeJ, writeC, writeM}
 use Rattle.fields.specs.Claims.{Owned, HasWord, Numbered, WordAgain, NumbersAgain, Rows}
@@ -71,14 +73,19 @@ encoded-numbers (I op flags d a immediate) w e =
           (ap (reduced layoutI) (l .parts) ∙ rw (truncated-again (2 ^ 9) immediate (pow-pos 9)));
     }
 encoded-numbers (Movei op flag d immediate) w e =
-    let l = encoded-is layoutMovei refl (0b01100 ∷ rowMovei op .opcode ∷ d ∷ immediate ∷ flag ∷ 0 ∷ []) refl _ w e in
+    let l = encoded-is layoutMovei refl (0b01100 ∷ rowMovei op .opcode ∷ d ∷ fieldMovei immediate ∷ flag ∷ 0 ∷ []) refl _ w e in
     let p : bits w 31 27 ≡ 0b01100 = cc in
+    let po : bits w 26 24 ≡ rowMovei op .opcode = cc in
+    let pd : bits w 23 18 ≡ d = cc in
+    let pi : bits w 17 2 ≡ fieldMovei immediate = cc in
+    let pf : bits w 1 1 ≡ flag = cc in
+    let s = number-field op immediate (and-right (allowsMovei flag d) _ (l .allows)) in
     record {
       below = l .below;
-      own = is-Movei unpacks w p ∙ cc;
+      own = is-Movei unpacks w p ∙ rw (po, finds-Movei op, pd, pi, s, pf);
       back =
           filled-unpack layoutMovei refl (0b01100 ∷ rowMovei op .opcode ∷ d ∷ immediate ∷ flag ∷ 0 ∷ []) w (l .below)
-          (ap (reduced layoutMovei) (l .parts));
+          (ap (reduced layoutMovei) (l .parts) ∙ rw (truncated-again (2 ^ 16) immediate (pow-pos 16)));
     }
 encoded-numbers (J op register offset) w e =
     let l = encoded-is layoutJ refl (0b01110 ∷ rowJ op .opcode ∷ register ∷ truncated (2 ^ 17) offset ∷ []) refl _ w e in
@@ -192,5 +199,5 @@ numbers-again n h e =
     (exact (h .word) (h .instruction) (l .below) .1 (k .1), l .own ∙ sym (k .0))
 
 pub rows-hold : Rows
-unfolding numbersOf signed
+unfolding numbersOf signed find
 rows-hold = record { r = refl; i = refl; movei = refl; j = refl; c = refl; m = refl }

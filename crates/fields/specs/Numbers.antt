@@ -2,10 +2,13 @@
 use Prim.Native.Nat.{ℕ, _%_, _^_}
 use mathlib.Core.Bool.{Bool, _&&_, cond}
 use mathlib.Core.List.{List, [], _∷_}
+use mathlib.Core.Option.{Option, none, some}
 use lib.Dec.{eqb}
 use Rattle.word_layout.specs.Layout.{Part, width, field, signedField, pack, firstRegister, secondRegister, thirdRegister, opcodeR, vectorFlagsR, layoutR, prefixR, opcodeI, immediateI, vectorFlagsI, layoutI, prefixI, opcodeMovei, immediateMovei, vectorFlag, layoutMovei, prefixMovei, opcodeJ, offsetJ, layoutJ, prefixJ, opcodeC, layoutC, prefixC, opcodeM, offsetM, layoutM, prefixM}
+use Rattle.isa.specs.Number.{numberMovei}
 use Rattle.isa.specs.Read.{Formats, byFormat}
-use Rattle.fields.specs.Types.{Numbers}
+use Rattle.isa.specs.Table.{operationAt, tableMovei}
+use Rattle.fields.specs.Types.{Numbers, MoveiOp}
 
 -- the format, the opcode, the vector flags, and the fields in the order of the word
 abbrev pub numbers : ℕ → ℕ → ℕ → ℕ → ℕ → ℕ → Numbers
@@ -27,9 +30,17 @@ unpackR w = numbers 0 (field w opcodeR) (field w vectorFlagsR) (field w firstReg
 abbrev pub unpackI : ℕ → Numbers
 unpackI w = numbers 1 (field w opcodeI) (field w vectorFlagsI) (field w firstRegister) (field w secondRegister) (signedField w immediateI)
 
+-- MOVEI's number goes by its operation; a word of no operation has its field as it is
+abbrev pub moveiNumber : Option MoveiOp → ℕ → ℕ
+moveiNumber none n = n
+moveiNumber (some op) n = numberMovei op n
+
 -- "MOVEI: .. opcode 26-24, d 23-18, immediate 17-2, vector flag bit 1."
+abbrev pub immediateOf : ℕ → ℕ
+immediateOf w = moveiNumber (operationAt tableMovei (field w opcodeMovei)) (field w immediateMovei)
+
 abbrev pub unpackMovei : ℕ → Numbers
-unpackMovei w = numbers 2 (field w opcodeMovei) (field w vectorFlag) (field w firstRegister) (field w immediateMovei) 0
+unpackMovei w = numbers 2 (field w opcodeMovei) (field w vectorFlag) (field w firstRegister) (immediateOf w) 0
 
 -- "J: .. opcode 26-24, register 23-18, signed byte offset 17-0"
 abbrev pub unpackJ : ℕ → Numbers

@@ -1,6 +1,7 @@
 // Words taken apart into numbers, and put together from them.
 use crate::numbers::Found;
 use crate::numbers::Numbers;
+use isa::MoveiOp;
 use isa::Reading;
 use word_layout::PREFIX_C;
 use word_layout::PREFIX_I;
@@ -11,7 +12,7 @@ use word_layout::PREFIX_R;
 ghost use Prim.Native.Nat.{_+_, _*_, _<_, _≤_};
 ghost use mathlib.Core.Path.{_≡_};
 ghost use Rattle.fields.specs.Find.{found, wordFor};
-ghost use Rattle.fields.specs.Numbers.{numbers, sameNumbers, numbersOf, wordOf};
+ghost use Rattle.fields.specs.Numbers.{numbers, sameNumbers, immediateOf, numbersOf, wordOf};
 
 fn numbers_as(format: u32, opcode: u32, flags: u32, first: u32, second: u32, third: u32) -> Numbers
     ensures { λ r. ⌜ r ≡ numbers format opcode flags first second third ⌝ }
@@ -24,6 +25,16 @@ fn numbers_as(format: u32, opcode: u32, flags: u32, first: u32, second: u32, thi
         second,
         third,
     }
+}
+
+// The number of a MOVEI word, by its opcode: 2 is movei's.
+fn immediate_of(w: u32) -> u32
+    ensures { λ r. ⌜ r ≡ immediateOf w ⌝ }
+{
+    if w / 0x1000000 % 8 == 2 {
+        return isa::movei_number(MoveiOp::Whole, w);
+    }
+    isa::movei_number(MoveiOp::Low, w)
 }
 
 // The numbers of a word, by the format that its upper bits say.
@@ -42,7 +53,7 @@ pub fn unpack(w: u32) -> Numbers
         return numbers_as(1, opcode % 32, w / 2 % 4, first, second, short);
     }
     if w / 0x8000000 == PREFIX_MOVEI {
-        return numbers_as(2, opcode % 8, w / 2 % 2, first, w / 4 % 65536, 0);
+        return numbers_as(2, opcode % 8, w / 2 % 2, first, immediate_of(w), 0);
     }
     if w / 0x8000000 == PREFIX_J {
         return numbers_as(3, opcode % 8, 0, first, long, 0);
@@ -56,8 +67,8 @@ pub fn unpack(w: u32) -> Numbers
     numbers_as(6, 0, 0, 0, 0, 0)
 }
 
-// A word from its format's bits, its opcode, its first field and the rest. isa's own packing asks for room, which an open call may not; here
-// each number is reduced first.
+// A word from its format's bits, its opcode, its first field and the rest. isa's own packing asks for room, which an open call may not;
+// here each number is reduced first.
 fn place(format: u32, opcode: u32, first: u32, rest: u32) -> u32
     requires { ⌜ (format + opcode * 0x1000000 + 0x1000000 ≤ 0x100000000) × (first < 64) × (rest < 0x40000) ⌝ }
     ensures { λ r. ⌜ r ≡ format + opcode * 0x1000000 + first * 0x40000 + rest ⌝ }

@@ -27,9 +27,9 @@ figures =
     reads 0x12EC1086 (given (R (Compare Lt) 0b011 59 1 2)) ∷
     -- "0x44041FF8 addi s1,s1,-1"
     reads 0x44041FF8 (given (I (Binary Add) 0b00 1 1 0xFFFFFFFF)) ∷
-    -- "0x62060000 movei s1 giving 0x00008000"
-    reads 0x62060000 (given (Movei Whole 0 1 0x00008000)) ∷
-    sets 0x62060000 0x00008000 ∷
+    -- "0x62060000 movei s1", which 02 (T-02) changed: "the case 0x62060000 becomes 0xFFFF8000"
+    reads 0x62060000 (given (Movei Whole 0 1 0xFFFF8000)) ∷
+    sets 0x62060000 0xFFFF8000 ∷
     -- "0x82081000 load32 s2,(s1)"
     reads 0x82081000 (given (M (Load Load32) 2 1 0)) ∷
     -- "0x00000000 and 0x04FC0000 undefined"

@@ -5,6 +5,7 @@ pub mod Tables
 pub mod Room
 pub mod Parts
 pub mod Answers
+pub mod Number
 pub mod Formats
 pub mod RoundTrip
 pub mod Cases

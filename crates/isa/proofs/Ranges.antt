@@ -5,10 +5,11 @@ use native.Mathlib.Omega.{arith}
 use lib.Dec.{eqb}
 use Rattle.isa.proofs.Cases.{by-test, by-guarded, by-listed}
 use Rattle.answer.specs.Answer.{Answer, given, refused}
-use Rattle.isa.specs.Claims.{Ranged, InRange}
+use Rattle.isa.specs.Claims.{HalfWord, Ranged, InRange}
 use Rattle.word_layout.specs.Layout.{bits}
+use Rattle.isa.specs.Number.{numberMovei}
 use Rattle.isa.specs.Read.{guarded, read, readR, readI, readMovei, readJ, readC, readM, asR, asI, asMovei, asJ, asC, asM}
-use Rattle.isa.specs.Types.{Operation, MoveiOp, JumpOp, ControlOp, MemoryOp, Instruction}
+use Rattle.isa.specs.Types.{Operation, MoveiOp, Low, High, Whole, JumpOp, ControlOp, MemoryOp, Instruction}
 
 -- what an answer gives is in range
 InRanges : Answer Instruction → Type 0
@@ -23,6 +24,12 @@ took : (t : Bool) (i : Instruction) → Ranged i → InRanges (guarded t i)
 unfolding InRanges
 took t i r = by-guarded InRanges t r tt
 
+-- the number of moveil and moveih is half a word
+pub half-word : (op : MoveiOp) (w : ℕ) → HalfWord op (numberMovei op (bits w 17 2))
+half-word Low w = omega arith
+half-word High w = omega arith
+half-word Whole w = tt
+
 -- the fields of a word are, by format
 r : (w : ℕ) (op : Operation) → InRanges (asR w op)
 unfolding asR
@@ -34,7 +41,7 @@ i w op = took _ _ (omega arith)
 
 movei : (w : ℕ) (op : MoveiOp) → InRanges (asMovei w op)
 unfolding asMovei
-movei w op = took _ _ (omega arith)
+movei w op = took _ _ (omega arith, half-word op w)
 
 j : (w : ℕ) (op : JumpOp) → InRanges (asJ w op)
 unfolding asJ

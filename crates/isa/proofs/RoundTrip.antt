@@ -12,10 +12,12 @@ use Rattle.isa.proofs.Both.{each, and-left, and-right, and-both}
 use Rattle.isa.proofs.Formats.{is-R, is-I, is-Movei, is-J, is-C, is-M}
 use Rattle.isa.proofs.Lookup.{found}
 use Rattle.word_layout.proofs.Signed.{truncated-signed, fits-signed-field, signed-truncated}
+use Rattle.isa.proofs.Number.{field-number, fits-number, number-field}
 use Rattle.isa.proofs.Tables.{finds-R, finds-Movei, finds-J, finds-C, finds-M}
 use Rattle.answer.specs.Answer.{Answer, given, refused, undefined, not-fitted}
 use Rattle.isa.specs.Claims.{Exact, Apart}
 use Rattle.word_layout.specs.Layout.{bits, layoutR, layoutI, layoutMovei, layoutJ, layoutC, layoutM, truncated, signed}
+use Rattle.isa.specs.Number.{numberMovei, fieldMovei}
 use Rattle.isa.specs.Read.{reads, read, readR, readI, readMovei, readJ, readC, readM, asR, asI, asMovei, asJ, asC, asM, listed}
 use Rattle.isa.specs.Rule.{allowsR, allowsI, allowsMovei, allowsJ, allowsC, allowsM}
 use Rattle.isa.specs.Table.{rowR, rowI, rowMovei, rowJ, rowC, rowM, tableR, tableMovei, tableJ, tableC, tableM}
@@ -60,14 +62,15 @@ write-read (I op flags d a immediate) w e =
     let s = signed-truncated (2 ^ 8) immediate (and-right (allowsI op flags d) _ (l .allows)) in
     is-I reads w p ∙ rw (po, finds-R op, pd, pa, pi, s, pf, p0) (accept _ _ (refl, (and-left _ _ (l .allows), tt)))
 write-read (Movei op flag d immediate) w e =
-    let l = encoded-is layoutMovei refl (0b01100 ∷ rowMovei op .opcode ∷ d ∷ immediate ∷ flag ∷ 0 ∷ []) refl _ w e in
+    let l = encoded-is layoutMovei refl (0b01100 ∷ rowMovei op .opcode ∷ d ∷ fieldMovei immediate ∷ flag ∷ 0 ∷ []) refl _ w e in
     let p : bits w 31 27 ≡ 0b01100 = cc in
     let po : bits w 26 24 ≡ rowMovei op .opcode = cc in
     let pd : bits w 23 18 ≡ d = cc in
-    let pi : bits w 17 2 ≡ immediate = cc in
+    let pi : bits w 17 2 ≡ fieldMovei immediate = cc in
     let pf : bits w 1 1 ≡ flag = cc in
     let p0 : bits w 0 0 ≡ 0 = cc in
-    is-Movei reads w p ∙ rw (po, finds-Movei op, pd, pi, pf, p0) (accept _ _ (refl, (l .allows, tt)))
+    let s = number-field op immediate (and-right (allowsMovei flag d) _ (l .allows)) in
+    is-Movei reads w p ∙ rw (po, finds-Movei op, pd, pi, s, pf, p0) (accept _ _ (refl, (and-left _ _ (l .allows), tt)))
 write-read (J op register offset) w e =
     let l = encoded-is layoutJ refl (0b01110 ∷ rowJ op .opcode ∷ register ∷ truncated (2 ^ 17) offset ∷ []) refl _ w e in
     let p : bits w 31 27 ≡ 0b01110 = cc in
@@ -133,8 +136,11 @@ from-Movei w i b p e =
     let h = each (eqb (bits w 0 0) 0 ∷ allowsMovei (bits w 1 1) (bits w 23 18) ∷ []) (t .0) in
     let po : rowMovei (o .op) .opcode ≡ bits w 26 24 = found rowMovei (tableMovei .operations) (bits w 26 24) (o .op) (o .at) in
     let p0 : bits w 0 0 ≡ 0 = eqb-true _ _ (h .0) in
+    let n : bits w 17 2 < 65536 = omega arith in
+    let pc = field-number (o .op) (bits w 17 2) n in
     rw (← t .1)
-    (encodes layoutMovei refl (0b01100 ∷ rowMovei (o .op) .opcode ∷ bits w 23 18 ∷ bits w 17 2 ∷ bits w 1 1 ∷ 0 ∷ []) _ w (h .1 .0) (cc) b)
+    (encodes layoutMovei refl (0b01100 ∷ rowMovei (o .op) .opcode ∷ bits w 23 18 ∷ fieldMovei (numberMovei (o .op) (bits w 17 2)) ∷ bits w 1 1 ∷ 0 ∷ []) _ w
+    (and-both _ _ (h .1 .0) (fits-number (o .op) (bits w 17 2) n)) (cc) b)
 
 from-J : (w : ℕ) (i : Instruction) → w < 2 ^ 32 → bits w 31 27 ≡ 0b01110 → readJ w ≡ given i → write i ≡ given w
 unfolding readJ asJ write writeJ

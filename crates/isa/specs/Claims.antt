@@ -9,7 +9,7 @@ use Rattle.answer.specs.Answer.{Answer, given, refused}
 use Rattle.word_layout.specs.Layout.{bits}
 use Rattle.isa.specs.Read.{read}
 use Rattle.isa.specs.declared.instruction.BinaryOp.the-variants.{Add}
-use Rattle.isa.specs.Types.{Instruction, R, I, Movei, J, C, M, Binary}
+use Rattle.isa.specs.Types.{MoveiOp, Low, High, Whole, Instruction, R, I, Movei, J, C, M, Binary}
 use Rattle.isa.specs.Write.{write}
 
 -- "Words read into instructions and instructions written into words follow the same tables, with no other word accepted."
@@ -21,11 +21,17 @@ Exact = (w : ℕ) (i : Instruction) → w < 2 ^ 32 → (read w ≡ given i) ↔ 
 unfoldable pub Apart : Type 0
 Apart = (w : ℕ) (i j : Instruction) → write i ≡ given w → write j ≡ given w → i ≡ j
 
+-- the immediate of moveil and moveih is half a word; movei's is signed
+abbrev pub HalfWord : MoveiOp → ℕ → Type 0
+HalfWord Low n = n < 2 ^ 16
+HalfWord High n = n < 2 ^ 16
+HalfWord Whole n = Unit {0}
+
 -- an instruction's registers are among the 64, and an immediate that is not signed is half a word
 abbrev pub Ranged : Instruction → Type 0
 Ranged (R op flags d a b) = (d < 64) × (a < 64) × (b < 64)
 Ranged (I op flags d a immediate) = (d < 64) × (a < 64)
-Ranged (Movei op flag d immediate) = (d < 64) × (immediate < 2 ^ 16)
+Ranged (Movei op flag d immediate) = (d < 64) × HalfWord op immediate
 Ranged (J op register offset) = register < 64
 Ranged (C op first second) = (first < 64) × (second < 64)
 Ranged (M op register base offset) = (register < 64) × (base < 64)
@@ -83,6 +89,9 @@ rows =
     row 0x2A000000 (refused 8) ∷ row 0x2DFFFFFF (refused 8) ∷ row 0x31000001 (refused 8) ∷
     -- addi with bit 4 set: part of its immediate
     row 0x44000010 (given (I (Binary Add) 0b00 0 0 2)) ∷
+    -- moveil, moveih and movei with the highest bit of the immediate set, and movei with all of it
+    row 0x60060000 (given (Movei Low 0 1 0x8000)) ∷ row 0x61060000 (given (Movei High 0 1 0x8000)) ∷
+    row 0x62060000 (given (Movei Whole 0 1 0xFFFF8000)) ∷ row 0x6207FFFC (given (Movei Whole 0 1 0xFFFFFFFF)) ∷
     -- load32 with bit 2, bit 1, and with all of bits 2 to 0 into s63
     row 0x82000004 (refused 8) ∷ row 0x82000002 (refused 8) ∷ row 0x82FC0007 (refused 8) ∷
     -- bit 0 alone; and bit 2 with opcode 3, which M does not name

@@ -5,6 +5,7 @@ pub mod Text
 pub mod Answer
 pub mod Table
 pub mod Found
+pub mod Number
 pub mod Rule
 pub mod Read
 pub mod Write

@@ -6,6 +6,7 @@ use mathlib.Core.Option.{Option, none, some}
 use lib.Dec.{eqb}
 use Rattle.answer.specs.Answer.{Answer, given, refused, undefined, not-fitted}
 use Rattle.word_layout.specs.Layout.{field, signedField, firstRegister, secondRegister, thirdRegister, bit0, formatR, prefixR, opcodeR, bit5, bitL, vectorFlagsR, formatI, prefixI, opcodeI, immediateI, vectorFlagsI, formatMovei, prefixMovei, opcodeMovei, immediateMovei, vectorFlag, formatJ, prefixJ, opcodeJ, offsetJ, formatC, prefixC, opcodeC, lowBitsC, formatM, prefixM, opcodeM, offsetM, bitsM}
+use Rattle.isa.specs.Number.{numberMovei}
 use Rattle.isa.specs.Rule.{allowsR, allowsI, allowsMovei, allowsJ, allowsC, allowsM}
 use Rattle.isa.specs.Table.{tableR, tableMovei, tableJ, tableC, tableM, not-fitted-opcodes, operationAt}
 use Rattle.isa.specs.Test.{all, isIn}
@@ -28,7 +29,8 @@ unfoldable pub asR : ℕ → Operation → Answer Instruction
 asR w op =
     cond (eqb (field w bitL) 1) (refused not-fitted)
     (guarded
-    (all (eqb (field w bit5) 0 ∷ eqb (field w bit0) 0 ∷ allowsR op (field w vectorFlagsR) (field w firstRegister) (field w thirdRegister) ∷ []))
+    (all (eqb (field w bit5) 0 ∷ eqb (field w bit0) 0 ∷
+    allowsR op (field w vectorFlagsR) (field w firstRegister) (field w thirdRegister) ∷ []))
     (R op (field w vectorFlagsR) (field w firstRegister) (field w secondRegister) (field w thirdRegister)))
 
 unfoldable pub asI : ℕ → Operation → Answer Instruction
@@ -39,7 +41,7 @@ asI w op =
 unfoldable pub asMovei : ℕ → MoveiOp → Answer Instruction
 asMovei w op =
     guarded (all (eqb (field w bit0) 0 ∷ allowsMovei (field w vectorFlag) (field w firstRegister) ∷ []))
-    (Movei op (field w vectorFlag) (field w firstRegister) (field w immediateMovei))
+    (Movei op (field w vectorFlag) (field w firstRegister) (numberMovei op (field w immediateMovei)))
 
 unfoldable pub asJ : ℕ → JumpOp → Answer Instruction
 asJ w op =

@@ -79,11 +79,12 @@ not-fitted-opcodes = 33 ∷ 34 ∷ 35 ∷ 36 ∷ 37 ∷ 38 ∷ 39 ∷ 40 ∷ 41 
 abbrev pub rowI : Operation → OpcodeRow
 rowI op = record { opcode = rowR op .opcode; name = rowR op .name ++ bytes "i" }
 
--- "MOVEI: .. 0 moveil replaces the low half, 1 moveih the high half, 2 movei sets the value with the high half zero."
+-- "MOVEI: .. 0 moveil replaces the low half, 1 moveih the high half, 2 movei sets the value", and of movei 02 (T-02): "extends the sign into
+-- the high half"
 abbrev pub rowMovei : MoveiOp → OpcodeRow
 rowMovei Low = row 0 "moveil"  -- the low half of d := immediate
 rowMovei High = row 1 "moveih"  -- the high half of d := immediate
-rowMovei Whole = row 2 "movei"  -- d := immediate
+rowMovei Whole = row 2 "movei"  -- d := immediate, signed
 
 abbrev pub tableMovei : Table MoveiOp
 tableMovei = record { rowOf = rowMovei; operations = Low ∷ High ∷ Whole ∷ [] }

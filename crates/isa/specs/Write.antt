@@ -4,6 +4,7 @@ use mathlib.Core.Bool.{Bool, true, false, _&&_}
 use mathlib.Core.List.{List, [], _∷_}
 use Rattle.answer.specs.Answer.{Answer, given, refused, no-word}
 use Rattle.word_layout.specs.Layout.{Part, pack, eachFits, layoutR, layoutI, layoutMovei, layoutJ, layoutC, layoutM, prefixR, prefixI, prefixMovei, prefixJ, prefixC, prefixM, truncated, fits-signed, signBit, immediateI, offsetJ, offsetM}
+use Rattle.isa.specs.Number.{fieldMovei, fitsMovei}
 use Rattle.isa.specs.Rule.{allowsR, allowsI, allowsMovei, allowsJ, allowsC, allowsM}
 use Rattle.isa.specs.Table.{rowR, rowI, rowMovei, rowJ, rowC, rowM}
 use Rattle.isa.specs.Test.{all}
@@ -29,7 +30,9 @@ writeI op flags d a immediate =
     (prefixI ∷ rowI op .opcode ∷ d ∷ a ∷ truncated (signBit immediateI) immediate ∷ flags ∷ 0 ∷ [])
 
 unfoldable pub writeMovei : MoveiOp → ℕ → ℕ → ℕ → Answer ℕ
-writeMovei op flag d immediate = encoded (allowsMovei flag d) layoutMovei (prefixMovei ∷ rowMovei op .opcode ∷ d ∷ immediate ∷ flag ∷ 0 ∷ [])
+writeMovei op flag d immediate =
+    encoded (allowsMovei flag d && fitsMovei op immediate) layoutMovei
+    (prefixMovei ∷ rowMovei op .opcode ∷ d ∷ fieldMovei immediate ∷ flag ∷ 0 ∷ [])
 
 unfoldable pub writeJ : JumpOp → ℕ → ℕ → Answer ℕ
 writeJ op register offset =

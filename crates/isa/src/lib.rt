@@ -7,6 +7,7 @@ mod read;
 mod rule;
 mod write;
 
+pub use field::movei_number;
 pub use instruction::BinaryOp;
 pub use instruction::CompareOp;
 pub use instruction::ControlOp;

@@ -1,4 +1,5 @@
 // Words read into instructions.
+use crate::field;
 use crate::instruction::ControlOp;
 use crate::instruction::Instruction;
 use crate::instruction::JumpOp;
@@ -67,7 +68,7 @@ fn as_movei(w: u32, op: MoveiOp) -> Reading
 {
     let flag = w / 2 % 2;
     let d = w / 0x40000 % 64;
-    let immediate = w / 4 % 65536;
+    let immediate = field::movei_number(op, w);
     if (w % 2 == 0) & rule::movei_allows(flag, d) {
         Reading::Defined(Instruction::Movei {
             op,

@@ -54,8 +54,13 @@ fn write_movei(op: MoveiOp, flag: u32, d: u32, immediate: u32) -> Writing
     ensures { λ r. ⌜ writing r ≡ writeMovei op flag d immediate ⌝ }
 {
     let opcode = opcode::movei_opcode(op);
-    if rule::movei_allows(flag, d) & (opcode < 8) & (d < 64) & (immediate < 65536) & (flag < 2) {
-        Writing::Word(pack::movei(opcode, d, immediate, flag))
+    if rule::movei_allows(flag, d)
+        & field::movei_fits(op, immediate)
+        & (opcode < 8)
+        & (d < 64)
+        & (flag < 2)
+    {
+        Writing::Word(pack::movei(opcode, d, immediate % 65536, flag))
     } else {
         Writing::NoWord
     }

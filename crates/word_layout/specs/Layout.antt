@@ -97,7 +97,7 @@ layoutI = formatI ∷ opcodeI ∷ firstRegister ∷ secondRegister ∷ immediate
 abbrev pub prefixI : ℕ
 prefixI = 0b010
 
--- "MOVEI: bits 31-27 = 01100, opcode 26-24, d 23-18, immediate 17-2, vector flag bit 1."
+-- "MOVEI: bits 31-27 = 01100, opcode 26-24, d 23-18, immediate 17-2, vector flag bit 1." Whether it is signed: isa/specs/Number.antt
 abbrev pub formatMovei : Part
 formatMovei = 31 to 27
 

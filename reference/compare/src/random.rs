@@ -91,12 +91,9 @@ impl Random {
 
     fn movei(&mut self) -> Instruction {
         let most = self.of(&[16, 65536]);
-        Instruction::Movei {
-            opcode: self.below(3) as u8,
-            flag: self.below(2) as u8,
-            d: self.register(),
-            immediate: self.below(most) as u32,
-        }
+        let (opcode, flag, d, n) = (self.below(3) as u8, self.below(2) as u8, self.register(), self.below(most));
+        let immediate = if opcode == 2 { n as i16 as i32 } else { n as i32 };
+        Instruction::Movei { opcode, flag, d, immediate }
     }
 
     /// A place that a jump or a program counter may be at: mostly a word of the program, often one near `at`, at times a byte that is none.
@@ -213,7 +210,7 @@ impl Random {
                 let id = self.of(&[0, 1, 31, 32]);
                 vec![movei(3, 2), movei(1, id), count, Instruction::C { opcode: 0, first: 1, second: 2 }]
             }
-            1 => vec![movei(59, self.below(65536) as u32)],
+            1 => vec![movei(59, self.below(65536) as i16 as i32)],
             _ => {
                 let d = self.below(3) as u8;
                 let other = self.below(3) as u8;

@@ -9,7 +9,7 @@ fn numbers(instruction: Instruction) -> [u32; 6] {
     match instruction {
         Instruction::R { opcode, flags, d, a, b } => [0, opcode as u32, flags as u32, d as u32, a as u32, b as u32],
         Instruction::I { opcode, flags, d, a, immediate } => [1, opcode as u32, flags as u32, d as u32, a as u32, immediate as u32],
-        Instruction::Movei { opcode, flag, d, immediate } => [2, opcode as u32, flag as u32, d as u32, immediate, 0],
+        Instruction::Movei { opcode, flag, d, immediate } => [2, opcode as u32, flag as u32, d as u32, immediate as u32, 0],
         Instruction::J { opcode, register, offset } => [3, opcode as u32, 0, register as u32, offset as u32, 0],
         Instruction::C { opcode, first, second } => [4, opcode as u32, 0, first as u32, second as u32, 0],
         Instruction::M { opcode, register, base, offset } => [5, opcode as u32, 0, register as u32, base as u32, offset as u32],
@@ -26,7 +26,7 @@ fn named(n: [u32; 6]) -> Option<Instruction> {
         1 => Instruction::I { opcode, flags: byte(n[2])?, d: byte(n[3])?, a: byte(n[4])?, immediate: n[5] as i32 },
         2 => {
             empty(&[n[5]])?;
-            Instruction::Movei { opcode, flag: byte(n[2])?, d: byte(n[3])?, immediate: n[4] }
+            Instruction::Movei { opcode, flag: byte(n[2])?, d: byte(n[3])?, immediate: n[4] as i32 }
         }
         3 => {
             empty(&[n[2], n[5]])?;
@@ -83,7 +83,7 @@ pub fn reading_all(upper: u64, tally: &mut Tally) {
 const MOST: u32 = u32::MAX;
 /// Opcodes and flags: all that a field can hold, and numbers that it can't.
 const TOO_LARGE: [u32; 5] = [64, 256, 257, 1 << 31, MOST];
-/// The edges of a field, by what it holds: a register, nothing, a signed immediate, a half word, a signed offset.
+/// The edges of a field, by what it holds: a register, nothing, a signed immediate, a half word, signed or not, a signed offset.
 const REGISTER: &[u32] = &[0, 1, 32, 62, 63, 64, 127, 256, 1 << 31, MOST];
 const NOTHING: &[u32] = &[0, 1, 256, 1 << 31];
 const IMMEDIATE: &[u32] = &[0, 1, 255, 256, 511, 512, 1 << 31, MOST - 256, MOST - 255, MOST - 254, MOST];

@@ -12,5 +12,6 @@ as-movei-spec =
     tie.close
     (tie.spec
     (λ c κs. search needs)
-    (λ c. rw (div-one, ← c .before .movei-allows .ensures, c .if1 .taken))
+    (λ c κs. search needs)
+    (λ c. rw (div-one, ← c .before .before .movei-number .ensures, ← c .before .movei-allows .ensures, c .if1 .taken))
     (λ c. rw (div-one, ← c .before .movei-allows .ensures, c .if1 .left)))

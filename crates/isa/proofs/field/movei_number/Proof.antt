@@ -1,0 +1,16 @@
+-- `movei_number` meets its contract: by the arm that was taken.
+use borrow.Author.Needs.{needs}
+use Rattle.isa.proofs.field.movei_number.Statement.{statement}
+use Rattle.isa.proofs.field.movei_number.Tie as tie
+
+pub movei-number-spec : {M : Type 1} → statement M
+movei-number-spec =
+    tie.close
+    (tie.spec
+    (λ c. c .match .keys1)
+    (λ c. c .match .keys2)
+    (λ c. c .match .keys3)
+    (λ c κs. search needs)
+    (λ c. rw (c .enum-told .given .1))
+    (λ c. rw (c .enum-told2 .given .1))
+    (λ c. rw (c .before .enum-told3 .given .1) (c .half-signed .ensures)))
