@@ -26,6 +26,16 @@ static const uint32_t vector_words[] = {
     0x4404100E, // addi v1,v1,1
     0x7003FFF0, // jmp to the first
 };
+static const uint32_t any_word_words[] = {
+    0x62040010, // movei s1,4
+    0x88041000, // loadv v1,(s1): never at a multiple of 64
+    0x0408108E, // add v2,v1,v2
+    0xA8081200, // storev v2,64(s1)
+    0x440410C0, // addi s1,s1,24
+    0x561817F8, // cmpulti s6,s1,255
+    0x761BFFEC, // bnez s6: to the load
+    0x7003FFE4, // jmp to the first
+};
 static const uint32_t barrier_words[] = {
     0x62040004, // movei s1,1
     0x78001000, // barrier s0,s1
@@ -84,6 +94,7 @@ static uint32_t row_256[256], row_16384[16384];
 static const struct workload workloads[] = {
     {"scalar loop", scalar_words, LENGTH(scalar_words), 1, 4000000, 1},
     {"vector loop", vector_words, LENGTH(vector_words), 1, 2000000, 1},
+    {"vectors at any word", any_word_words, LENGTH(any_word_words), 1, 2000000, 1},
     {"eight threads", scalar_words, LENGTH(scalar_words), 255, 4000000, 1},
     {"barrier, two threads", barrier_words, LENGTH(barrier_words), 3, 4000000, 1},
     {"memory copy", copy_words, LENGTH(copy_words), 1, 4000000, 1},
@@ -92,7 +103,7 @@ static const struct workload workloads[] = {
     {"256 words in a row", row_256, LENGTH(row_256), 1, 4000000, 1},
     {"16,384 words in a row", row_16384, LENGTH(row_16384), 1, 4000000, 1},
 };
-static const struct workload *const minute = &workloads[6];
+static const struct workload *const minute = &workloads[7];
 
 // A machine for each side: the library's first, then the rivals'.
 static struct side {

@@ -219,24 +219,24 @@ struct operand {
 #define HALF (w >> 2 & 0xFFFF)
 #define SIGNED_HALF ((uint32_t)((int32_t)(w << 14) >> 16))
 
-// The labels of M. An address is a sum in 64 bits, where a negative one is past every memory.
-#define PLACE(SIZE)                                                    \
+// The labels of M. An address is a sum in 64 bits, where a negative one is past every memory. A vector is at a multiple of 4.
+#define PLACE(MULTIPLE, SIZE)                                          \
     if (w & 7) goto m_off_line;                                        \
     address = (uint64_t)s[A] + (uint64_t)(int64_t)(int32_t)IMMEDIATE;  \
-    if (address & (SIZE - 1)) TRAP(1);                                 \
+    if (address & (MULTIPLE - 1)) TRAP(1);                             \
     if (address > bytes - SIZE) TRAP(2)
 #define LOAD(NAME, TYPE)                               \
     NAME: {                                            \
         TYPE x;                                        \
         if (D == 63) goto m_off_line;                  \
-        PLACE(sizeof x);                               \
+        PLACE(sizeof x, sizeof x);                     \
         memcpy(&x, memory + address, sizeof x);        \
         s[D] = (uint32_t)x;                            \
         GO_ON;                                         \
     }
 #define STORE(NAME, TYPE)                              \
     NAME: {                                            \
-        PLACE(sizeof(TYPE));                           \
+        PLACE(sizeof(TYPE), sizeof(TYPE));             \
         TYPE x = (TYPE)s[D];                           \
         memcpy(memory + address, &x, sizeof x);        \
         GO_ON;                                         \
@@ -373,11 +373,11 @@ end:
     STORE(store16, uint16_t)
     STORE(store32, uint32_t)
 loadv:
-    PLACE(64);
+    PLACE(4, 64);
     PUT_EACH(VECTOR(D), get(memory + address, k));
     GO_ON;
 storev:
-    PLACE(64);
+    PLACE(4, 64);
     PUT_EACH(memory + address, get(VECTOR(D), k));
     GO_ON;
 

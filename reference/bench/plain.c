@@ -1,4 +1,4 @@
-// A plain C interpreter of the house core, straight from document 01, to measure against: a function a format, no cleverness.
+// A plain C interpreter of the house core, straight from documents 01 and 02, to measure against: a function a format, no cleverness.
 #include "rival.h"
 
 struct machine {
@@ -233,7 +233,7 @@ static struct outcome do_m(struct machine *m, uint32_t w, uint32_t *s, uint32_t 
     if (bits(w, 2, 1)) return trap(6);
     if (bits(w, 0, 0) || (op <= 5 && r == 63)) return trap(3);
     int64_t address = (int64_t)s[bits(w, 17, 12)] + signed_bits(w, 11, 3);
-    if (address & (size - 1)) return trap(1);
+    if (address & (size == 64 ? 3 : size - 1)) return trap(1); // a vector is at a multiple of 4 (document 02, T-04)
     if (address < 0 || address + size > (int64_t)m->bytes) return trap(2);
     uint8_t *p = m->memory + address;
     switch (op) {

@@ -18,6 +18,14 @@ enum Next {
     Meets(u32, u32),
 }
 
+/// A vector that was loaded or stored: the place of its first byte, and the lanes that were on.
+#[derive(Clone, Copy)]
+pub struct Moved {
+    pub at: usize,
+    pub lanes: u16,
+    pub is_store: bool,
+}
+
 /// One thread's view of the machine in an issue.
 struct Issue<'a> {
     words: usize,
@@ -26,6 +34,7 @@ struct Issue<'a> {
     enabled: u8,
     t: usize,
     pc: u32,
+    moved: Option<Moved>,
 }
 
 /// An operand: "A scalar among vectors counts as sixteen equal lanes."
@@ -211,10 +220,12 @@ impl Issue<'_> {
         }
     }
 
-    /// The place of `size` bytes: "Not a multiple of 2, 4 or 64 (vector): reason 1. Then any byte outside memory: reason 2."
+    /// The place of `size` bytes: "Not a multiple of 2, 4 ..: reason 1. Then any byte outside memory: reason 2."
+    /// Document 02, T-04: "A vector load or store now needs an address that is a multiple of 4, not 64. All 64 bytes are still range-checked".
     fn place(&self, base: u8, offset: i32, size: i64) -> Result<usize, u8> {
         let address = self.s(base) as i64 + offset as i64;
-        if address % size != 0 {
+        let unit = if size == 64 { 4 } else { size };
+        if address % unit != 0 {
             return Err(1);
         }
         if address < 0 || address + size > self.memory.len() as i64 {
@@ -241,6 +252,9 @@ impl Issue<'_> {
             _ => 64,
         };
         let at = self.place(base, offset, size as i64)?;
+        if size == 64 {
+            self.moved = Some(Moved { at, lanes: self.s(59) as u16, is_store: opcode == 40 });
+        }
         match opcode {
             0 => self.set_s(register, self.bytes(at, 1) as u8 as i8 as i32 as u32),
             1 => self.set_s(register, self.bytes(at, 2) as u16 as i16 as i32 as u32),
@@ -284,9 +298,10 @@ impl Issue<'_> {
     }
 }
 
-/// One issue of thread t.
-fn issue(program: &[u32], room: &mut [u32], memory: &mut [u8], record: &mut Record, t: usize) {
+/// One issue of thread t: the vector that it moved, if it did.
+fn issue(program: &[u32], room: &mut [u32], memory: &mut [u8], record: &mut Record, t: usize) -> Option<Moved> {
     let pc = room[64 * t + 63];
+    let mut moved = None;
     let next = if pc % 4 != 0 || (pc / 4) as usize >= program.len() {
         Err(4)
     } else {
@@ -294,8 +309,10 @@ fn issue(program: &[u32], room: &mut [u32], memory: &mut [u8], record: &mut Reco
             Reading::Undefined => Err(3),
             Reading::NotFitted => Err(6),
             Reading::Defined(instruction) => {
-                let mut view = Issue { words: program.len(), room, memory, enabled: record.enabled, t, pc };
-                view.execute(instruction)
+                let mut view = Issue { words: program.len(), room, memory, enabled: record.enabled, t, pc, moved };
+                let next = view.execute(instruction);
+                moved = view.moved;
+                next
             }
         }
     };
@@ -314,6 +331,7 @@ fn issue(program: &[u32], room: &mut [u32], memory: &mut [u8], record: &mut Reco
             }
         }
     }
+    moved
 }
 
 /// "The first running thread after "last", going round upwards from 7 to 0"
@@ -323,17 +341,17 @@ fn chosen(record: &Record) -> Option<usize> {
 
 /// A run: the answer, or a number of the table, and the number of issues made.
 pub fn run(program: &[u32], room: &mut [u32], memory: &mut [u8], record: &mut Record, budget: u32) -> (Result<Ending, u8>, u32) {
-    run_seen(program, room, memory, record, budget, |_| ())
+    run_seen(program, room, memory, record, budget, |_, _| ())
 }
 
-/// The same, and tells the thread of each issue.
+/// The same, and tells the thread of each issue and the vector that it moved.
 pub fn run_seen(
     program: &[u32],
     room: &mut [u32],
     memory: &mut [u8],
     record: &mut Record,
     budget: u32,
-    mut seen: impl FnMut(usize),
+    mut seen: impl FnMut(usize, Option<Moved>),
 ) -> (Result<Ending, u8>, u32) {
     if program.is_empty() || program.len() > 16384 {
         return (Err(1), 0);
@@ -356,8 +374,7 @@ pub fn run_seen(
         if made == budget {
             return (Ok(Ending::Spent), made);
         }
-        issue(program, room, memory, record, t);
-        seen(t);
+        seen(t, issue(program, room, memory, record, t));
         made += 1;
     }
 }
@@ -409,21 +426,62 @@ mod tests {
         assert_eq!(room[512 + 48..512 + 64], expected);
     }
 
+    /// How thread 0 stands after one word, with 64 bytes of memory, so many in s1 and these lanes on.
+    fn after(word: u32, base: u32, lanes: u32) -> Status {
+        let (mut room, mut memory) = (room(), vec![0; 64]);
+        let mut record = start(1, &mut room).unwrap();
+        (room[1], room[59]) = (base, lanes);
+        assert_eq!(run(&[word], &mut room, &mut memory, &mut record, 1).1, 1);
+        record.threads[0]
+    }
+
     /// "Memory 64, load32: address 60 good, 62 reason 1, 64 and -4 reason 2, base 0xFFFFFFFC plus 4 reason 2."
     #[test]
     fn addresses() {
-        let load = |word, base| {
-            let (mut room, mut memory) = (room(), vec![0; 64]);
-            let mut record = start(1, &mut room).unwrap();
-            room[1] = base;
-            assert_eq!(run(&[word], &mut room, &mut memory, &mut record, 1).1, 1);
-            record.threads[0]
-        };
+        let load = |word, base| after(word, base, 0xFFFF);
         assert_eq!(load(0x82081000, 60), Status::Running);
         assert_eq!(load(0x82081000, 62), Status::Trapped(1));
         assert_eq!(load(0x82081000, 64), Status::Trapped(2));
         assert_eq!(load(0x82081FE0, 0), Status::Trapped(2));
         assert_eq!(load(0x82081020, 0xFFFF_FFFC), Status::Trapped(2));
+    }
+
+    /// Document 02, T-04: "in a 64-byte memory address 0 is good, 4 gives reason 2." Whatever lanes are on. 2 is no multiple of 4, -4 is one.
+    #[test]
+    fn vector_addresses() {
+        for lanes in [0xFFFF, 1, 0] {
+            for opcode in [0x8800_0000, 0xA800_0000] {
+                let vector = |base, offset: u32| after(opcode | 0x0004_1000 | offset << 3 & 0xFFF, base, lanes);
+                assert_eq!(vector(0, 0), Status::Running);
+                assert_eq!(vector(4, 0), Status::Trapped(2));
+                assert_eq!(vector(0, 4), Status::Trapped(2));
+                assert_eq!(vector(2, 0), Status::Trapped(1));
+                assert_eq!(vector(0, 4u32.wrapping_neg()), Status::Trapped(2));
+                assert_eq!(vector(4, 4u32.wrapping_neg()), Status::Running);
+            }
+        }
+    }
+
+    /// Document 02, T-04: a vector stored over two blocks of 64 bytes, and one of another thread over a part of it.
+    #[test]
+    fn overlapping_vectors() {
+        let (mut room, mut memory) = (room(), vec![0xEE; 192]);
+        let mut record = start(3, &mut room).unwrap();
+        (room[1], room[65]) = (44, 72);
+        for j in 0..16 {
+            (room[512 + 16 + j], room[512 + 1024 + 16 + j]) = (j as u32, 0x100 + j as u32);
+        }
+        room[64 + 59] = 0xFFFE;
+        assert_eq!(run(&[0xA804_1000], &mut room, &mut memory, &mut record, 2), (Ok(Ending::Spent), 2));
+        let word = |at: usize| u32::from_le_bytes(memory[at..at + 4].try_into().unwrap());
+        for at in (0..192).step_by(4) {
+            let expected = match at {
+                44..=72 => (at as u32 - 44) / 4,
+                76..=132 => 0x100 + (at as u32 - 72) / 4,
+                _ => 0xEEEE_EEEE,
+            };
+            assert_eq!(word(at), expected, "word at {at}");
+        }
     }
 
     /// "0x70000000 alone, mask 7, budget 7: issues 0,1,2,0,1,2,0, spent. Budget 0: spent, 0."
@@ -432,7 +490,7 @@ mod tests {
         let (mut room, mut memory) = (room(), vec![0; 64]);
         let mut record = start(7, &mut room).unwrap();
         let mut threads = vec![];
-        let answer = run_seen(&[0x7000_0000], &mut room, &mut memory, &mut record, 7, |t| threads.push(t));
+        let answer = run_seen(&[0x7000_0000], &mut room, &mut memory, &mut record, 7, |t, _| threads.push(t));
         assert_eq!(answer, (Ok(Ending::Spent), 7));
         assert_eq!(threads, [0, 1, 2, 0, 1, 2, 0]);
         assert_eq!(run(&[0x7000_0000], &mut room, &mut memory, &mut record, 0), (Ok(Ending::Spent), 0));

@@ -1,7 +1,7 @@
 -- Why a thread is trapped: the reasons of document 01, by number.
 use Prim.Native.Nat.{ℕ}
 
--- "Not a multiple of 2, 4 or 64 (vector): reason 1."
+-- "Not a multiple of 2, 4 ..: reason 1."; document 02, T-04: "A vector load or store now needs an address that is a multiple of 4, not 64."
 abbrev pub misaligned : ℕ
 misaligned = 1
 

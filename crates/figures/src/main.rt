@@ -1,4 +1,4 @@
-// The interpreter's test program: runs the figures of document 01 that are run, and prints what happened, a line a figure.
+// The interpreter's test program: runs the figures of the papers that are run, and prints what happened, a line a figure.
 ghost use mathlib.Core.Path.{_≡_};
 ghost use Prim.Native.Nat.{_<_};
 ghost use lib.ListN.{length};
@@ -94,12 +94,13 @@ fn say_status(status: Status) {
     }
 }
 
-// "Memory 64, load32: address 60 good, 62 reason 1, 64 and -4 reason 2, base 0xFFFFFFFC plus 4 reason 2." s1 is the base.
-fn load(registers: &mut [u32], word: u32, base: u32)
+// One load or store on 64 bytes of memory: s1 is the base, s59 says which lanes are on.
+fn access(registers: &mut [u32], word: u32, base: u32, lanes: u32)
     requires { ⌜ length (now registers) ≡ 8704 ⌝ }
 {
     let started = interpreter::start(1, registers);
     set(registers, 1, base);
+    set(registers, 59, lanes);
     let mut memory = [0u8; 64];
     let machine = started.machine;
     let run = interpreter::run(&[word], registers, &mut memory, machine, 1);
@@ -123,19 +124,44 @@ fn issue_order(registers: &mut [u32]) {
     say(b", ");
 }
 
+// "Memory 64, load32: address 60 good, 62 reason 1, 64 and -4 reason 2, base 0xFFFFFFFC plus 4 reason 2."
 fn loads(registers: &mut [u32])
     requires { ⌜ length (now registers) ≡ 8704 ⌝ }
 {
     say(b"memory 64, load32 at 60: ");
-    load(registers, 0x82081000, 60);
+    access(registers, 0x82081000, 60, 0xFFFF);
     say(b"memory 64, load32 at 62: ");
-    load(registers, 0x82081000, 62);
+    access(registers, 0x82081000, 62, 0xFFFF);
     say(b"memory 64, load32 at 64: ");
-    load(registers, 0x82081000, 64);
+    access(registers, 0x82081000, 64, 0xFFFF);
     say(b"memory 64, load32 at -4: ");
-    load(registers, 0x82081FE0, 0);
+    access(registers, 0x82081FE0, 0, 0xFFFF);
     say(b"memory 64, load32 at 0xFFFFFFFC plus 4: ");
-    load(registers, 0x82081020, 0xFFFFFFFC);
+    access(registers, 0x82081020, 0xFFFFFFFC, 0xFFFF);
+}
+
+// Document 02, T-04: "in a 64-byte memory address 0 is good, 4 gives reason 2."
+fn vector_loads(registers: &mut [u32])
+    requires { ⌜ length (now registers) ≡ 8704 ⌝ }
+{
+    say(b"memory 64, loadv at 0: ");
+    access(registers, 0x88081000, 0, 0xFFFF);
+    say(b"memory 64, loadv at 4: ");
+    access(registers, 0x88081000, 4, 0xFFFF);
+    say(b"memory 64, loadv at 2: ");
+    access(registers, 0x88081000, 2, 0xFFFF);
+    say(b"memory 64, loadv at -4: ");
+    access(registers, 0x88081FE0, 0, 0xFFFF);
+}
+
+// "All 64 bytes are still range-checked": also where no lane is on.
+fn vector_stores(registers: &mut [u32])
+    requires { ⌜ length (now registers) ≡ 8704 ⌝ }
+{
+    say(b"memory 64, no lane on, storev at 0: ");
+    access(registers, 0xA8081000, 0, 0);
+    say(b"memory 64, no lane on, storev at 4: ");
+    access(registers, 0xA8081000, 4, 0);
 }
 
 // "budget 7: issues 0,1,2,0,1,2,0, spent. Budget 0: spent, 0."
@@ -161,6 +187,8 @@ fn main() {
     say(b"s59 = 5, v1[j] = j, s2 = 10, v3 all 7: add v3,v1,s2 gives");
     masked_add(&mut registers);
     loads(&mut registers);
+    vector_loads(&mut registers);
+    vector_stores(&mut registers);
     turns(&mut registers);
     meetings(&mut registers);
 }

@@ -14,7 +14,7 @@ use Rattle.vector.proofs.Filling.{tab-lane}
 use Rattle.memory.specs.Attempt.{Attempt, done, fault, onward}
 use Rattle.little_endian.specs.Numbers.{numberAt, withNumber}
 use Rattle.memory.specs.Claims.{LoadAfterStore, LanesAfterStore}
-use Rattle.memory.specs.Operation.{widened, scalarPlace, vectorPlace, changed, load, store, withLanes, storeLanes, lanesAt, vectorLoad, loadLanes}
+use Rattle.memory.specs.Operation.{widened, scalarPlace, vectorAlignment, vectorPlace, changed, load, store, withLanes, storeLanes, lanesAt, vectorLoad, loadLanes}
 use Rattle.memory.specs.Place.{biased}
 use Rattle.memory.specs.Types.{Load8, Load16, Load32, Load8u, Load16u}
 use Rattle.little_endian.proofs.Numbers.{kept-number, other-number, back}
@@ -107,7 +107,7 @@ module _ (m : List ℕ) (base offset mask : ℕ) (v : List ℕ) (j : ℕ) (h : j
       ≡ cond (isOn mask j) (lane v j) (lane (vectorLoad p m .lanes) j)
   unfolding withLanes
   vectorLoad-back (done a) e d =
-      let r : a + 64 ≤ length m = within 64 64 (length m) (biased base offset) e in
+      let r : a + 64 ≤ length m = within vectorAlignment 64 (length m) (biased base offset) e in
       rw (kept-lanes m a mask v r 16, e, lane-at (withLanes m a mask v) a, lane-at m a) (after-turn m a mask v r 16 j h h b)
   vectorLoad-back (fault reason) e d = let z : _≡_ {A = ℕ} 0 1 = cc in absurd (omega arith)
 

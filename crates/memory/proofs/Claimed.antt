@@ -2,22 +2,23 @@
 use mathlib.Core.Path.{_≡_, refl, sym, ap, _∙_}
 use mathlib.Core.Bool.{Bool, true, false, cond}
 use mathlib.Core.List.{List}
-use Prim.Native.Nat.{ℕ, zero, suc, _+_, _-_, _*_, _^_, _≤_, _<_}
+use Prim.Native.Nat.{ℕ, _%_, zero, suc, _+_, _-_, _*_, _^_, _≤_, _<_}
 use native.Mathlib.Omega.{arith}
 use lib.Dec.{leb, ltb}
 use lib.IntN.{pos, negsuc, subℕ, _+ℤ_}
 use lib.ListN.{length}
-use borrow.Author.Tests.{leb-true, leb-false, lt-ltb, le-ltb, ltb-true, ltb-false}
+use borrow.Author.Tests.{eq-eqb, le-leb, leb-true, leb-false, lt-ltb, le-ltb, ltb-true, ltb-false}
 use Rattle.alu.specs.Word.{value}
 use Rattle.vector.specs.Lanes.{each, lane, isOn}
 use Rattle.vector.proofs.Filling.{tab-length}
 use Rattle.alu.proofs.Signed.{value-positive, value-negative}
 use Rattle.little_endian.proofs.Numbers.{kept-number}
+use Rattle.memory.proofs.Places.{when-good}
 use Rattle.memory.specs.Place.{biased, place}
-use Rattle.memory.specs.Attempt.{Attempt, done, fault}
+use Rattle.memory.specs.Attempt.{Attempt, done, fault, onward}
 use Rattle.little_endian.specs.Numbers.{numberAt, withNumber}
-use Rattle.memory.specs.Operation.{bytesStored, scalarPlace, vectorPlace, changed, load, store, withLanes, storeLanes, lanesAt, vectorLoad, loadLanes}
-use Rattle.memory.specs.Claims.{AddressIsSum, Figures, Rows, Lengths}
+use Rattle.memory.specs.Operation.{bytesStored, scalarPlace, vectorAlignment, vectorPlace, changed, load, store, withLanes, storeLanes, lanesAt, vectorLoad, loadLanes}
+use Rattle.memory.specs.Claims.{AddressIsSum, Figure, Figures, OfVectors, VectorFigures, VectorsAtAnyWord, Rows, Lengths}
 
 -- two differences that are the same
 same-difference : (a b c d : ℕ) → a + d ≡ c + b → subℕ a b ≡ subℕ c d
@@ -46,6 +47,34 @@ address-is-sum base offset ho = go (leb (2 ^ 31) offset) refl
 pub figures-hold : Figures
 unfolding place
 figures-hold = (refl, (refl, (refl, (refl, (refl, (refl, tt))))))
+
+-- the answer of a vector form is that of its place
+load-answers : (p : Attempt ℕ) (m : List ℕ) → vectorLoad p m .answer ≡ onward p (λ a. tt)
+load-answers (done a) m = refl
+load-answers (fault reason) m = refl
+
+store-answers : (p : Attempt ℕ) (m : List ℕ) (f : ℕ → List ℕ) → changed p m f .answer ≡ onward p (λ a. tt)
+store-answers (done a) m f = refl
+store-answers (fault reason) m f = refl
+
+-- a row, from its place in a memory of 64 bytes
+of-vectors : (r : Figure) → place vectorAlignment 64 64 (biased (r .base) (r .offset)) ≡ r .place → OfVectors r
+unfolding loadLanes storeLanes
+of-vectors r e = record {
+  goes = λ m h. rw (h, e);
+  loads = λ m h. load-answers (vectorPlace m (r .base) (r .offset)) m ∙ rw (h, e);
+  stores = λ m mask v h. store-answers (vectorPlace m (r .base) (r .offset)) m (λ a. withLanes m a mask v) ∙ rw (h, e);
+}
+
+pub vector-figures-hold : VectorFigures
+unfolding place
+vector-figures-hold = (of-vectors _ refl, (of-vectors _ refl, (of-vectors _ refl, (of-vectors _ refl, tt))))
+
+pub vectors-at-any-word : VectorsAtAnyWord
+vectors-at-any-word m a e h =
+    when-good 4 64 (length m) (biased a 0) (eq-eqb (biased a 0 % 4) 0 (omega (arith, e)))
+    (rw (le-leb (2 ^ 32) (biased a 0) (omega arith), le-leb (biased a 0 + 64) (2 ^ 32 + length m) (omega (arith, h))))
+    ∙ ap done (omega arith)
 
 pub rows-hold : Rows
 unfolding load store place numberAt withNumber

@@ -1,5 +1,5 @@
 -- What is proved of the definitions.
-use Prim.Native.Nat.{ℕ, _-_, _%_, _<_, _^_}
+use Prim.Native.Nat.{ℕ, _-_, _%_, _<_, _^_, _+_, _≤_}
 use mathlib.Core.Bool.{cond}
 use mathlib.Core.Path.{_≡_}
 use mathlib.Core.List.{List, [], _∷_}
@@ -10,9 +10,9 @@ use Rattle.alu.specs.Word.{value}
 use Rattle.vector.specs.Lanes.{lane, isOn}
 use Rattle.memory.specs.Types.{LoadOp, Load8, Load16, Load32, Load8u, Load16u, StoreOp, Store8, Store16, Store32, Sext8, Sext16}
 use Rattle.answer.specs.Reason.{misaligned, outside-memory}
-use Rattle.memory.specs.Attempt.{Attempt, done, fault}
+use Rattle.memory.specs.Attempt.{Attempt, done, fault, onward}
 use Rattle.memory.specs.Place.{biased, place}
-use Rattle.memory.specs.Operation.{bytesLoaded, load, store, storeLanes, loadLanes}
+use Rattle.memory.specs.Operation.{bytesLoaded, vectorPlace, load, store, storeLanes, loadLanes}
 
 -- "Address is base, read unsigned, plus offset and does not wrap.": the address, less what it is held with, is the signed sum.
 abbrev pub AddressIsSum : Type 0
@@ -32,12 +32,30 @@ figures =
     row 60 0 (done 60) ∷ row 62 0 (fault misaligned) ∷ row 64 0 (fault outside-memory) ∷ row 0 (2 ^ 32 - 4) (fault outside-memory) ∷ row 0 (2 ^ 32 - 2) (fault misaligned)
     ∷ row 0xFFFFFFFC 4 (fault outside-memory) ∷ []
 
-abbrev pub All : List Figure → Type 0
-All [] = Unit {0}
-All (r ∷ rs) = (place (bytesLoaded Load32) (bytesLoaded Load32) 64 (biased (r .base) (r .offset)) ≡ r .place) × All rs
+abbrev pub All : (Figure → Type 0) → List Figure → Type 0
+All holds [] = Unit {0}
+All holds (r ∷ rs) = holds r × All holds rs
 
 abbrev pub Figures : Type 0
-Figures = All figures
+Figures = All (λ r. place (bytesLoaded Load32) (bytesLoaded Load32) 64 (biased (r .base) (r .offset)) ≡ r .place) figures
+
+-- Document 02, T-04: "in a 64-byte memory address 0 is good, 4 gives reason 2."; and 2 gives reason 1, -4 reason 2
+abbrev pub vectorFigures : List Figure
+vectorFigures = row 0 0 (done 0) ∷ row 4 0 (fault outside-memory) ∷ row 2 0 (fault misaligned) ∷ row 0 (2 ^ 32 - 4) (fault outside-memory) ∷ []
+
+-- "All 64 bytes are still range-checked": so in each memory of 64 bytes, whatever lanes are on, also where none is
+pub record OfVectors (r : Figure) : Type 0 where
+  pub goes : (m : List ℕ) → length m ≡ 64 → vectorPlace m (r .base) (r .offset) ≡ r .place
+  pub loads : (m : List ℕ) → length m ≡ 64 → loadLanes m (r .base) (r .offset) .answer ≡ onward (r .place) (λ a. tt)
+  pub stores : (m : List ℕ) (mask : ℕ) (v : List ℕ) → length m ≡ 64
+      → storeLanes m (r .base) (r .offset) mask v .answer ≡ onward (r .place) (λ a. tt)
+
+abbrev pub VectorFigures : Type 0
+VectorFigures = All OfVectors vectorFigures
+
+-- "a multiple of 4, not 64": a vector goes to any word that has 64 bytes of memory from there on
+abbrev pub VectorsAtAnyWord : Type 0
+VectorsAtAnyWord = (m : List ℕ) (a : ℕ) → a % 4 ≡ 0 → a + 64 ≤ length m → vectorPlace m a 0 ≡ done a
 
 -- a store changes no length, and a vector load gives sixteen lanes
 pub record Lengths : Type 0 where

@@ -32,15 +32,15 @@ bytesStored Store8 = 1
 bytesStored Store16 = 2
 bytesStored Store32 = 4
 
--- "Not a multiple of 2, 4 or 64 (vector)": a scalar form's address is a multiple of its size,
+-- "Not a multiple of 2, 4 ..": a scalar form's address is a multiple of its size.
 abbrev pub scalarPlace : ℕ → List ℕ → ℕ → ℕ → Attempt ℕ
 scalarPlace size memory base offset = place size size (length memory) (biased base offset)
 
--- and a vector form's one of 64.
+-- Document 02, T-04: "A vector load or store now needs an address that is a multiple of 4, not 64."
 abbrev pub vectorAlignment : ℕ
-vectorAlignment = 64
+vectorAlignment = 4
 
--- "the range check covers all 64"
+-- "All 64 bytes are still range-checked"
 abbrev pub vectorPlace : List ℕ → ℕ → ℕ → Attempt ℕ
 vectorPlace memory base offset = place vectorAlignment 64 (length memory) (biased base offset)
 

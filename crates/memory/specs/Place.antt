@@ -15,7 +15,7 @@ biased base offset = base + cond (negative 32 offset) offset (2 ^ 32 + offset)
 abbrev pub inside : ℕ → ℕ → ℕ → Bool
 inside size length address = leb (2 ^ 32) address && leb (address + size) (2 ^ 32 + length)
 
--- "Not a multiple of 2, 4 or 64 (vector): reason 1. Then any byte outside memory: reason 2."
+-- "Not a multiple of 2, 4 ..: reason 1. Then any byte outside memory: reason 2."
 -- The place of an access of `size` bytes at an address that is to be a multiple of `alignment`; 2^32 is one of every alignment,
 -- so that the address is one with 2^32 added exactly if it is one without.
 unfoldable pub place : ℕ → ℕ → ℕ → ℕ → Attempt ℕ

@@ -13,7 +13,7 @@ use crate::place::Place;
 use crate::place::locate;
 
 // What the address of a vector form must be a multiple of.
-const ALIGNMENT: usize = 64;
+const ALIGNMENT: usize = 4;
 
 // How many bytes of it must be in memory, whatever lanes are on.
 const SIZE: usize = 64;
@@ -32,8 +32,8 @@ fn read_lanes(memory: &[u8], a: usize) -> [u32; 16]
 pub fn load_lanes(memory: &[u8], base: u32, offset: u32) -> LoadedLanes
     ensures { λ r. ⌜ ofLanes r ≡ loadLanes (now (memory .entry)) base offset ⌝ }
 {
-    let place = locate(base, offset, ALIGNMENT, SIZE, memory.len());
-    match place {
+    let from = locate(base, offset, ALIGNMENT, SIZE, memory.len());
+    match from {
         Place::At(a) => LoadedLanes {
             access: Access::Done,
             lanes: read_lanes(memory, a),
@@ -70,8 +70,8 @@ fn write_lanes(memory: &mut [u8], a: usize, mask: u32, v: [u32; 16])
 pub fn store_lanes(memory: &mut [u8], base: u32, offset: u32, mask: u32, v: [u32; 16]) -> Access
     ensures { λ r. ⌜ storeResult r (now (memory .exit)) ≡ storeLanes (now (memory .entry)) base offset mask v ⌝ }
 {
-    let place = locate(base, offset, ALIGNMENT, SIZE, memory.len());
-    match place {
+    let to = locate(base, offset, ALIGNMENT, SIZE, memory.len());
+    match to {
         Place::At(a) => {
             write_lanes(memory, a, mask, v);
             Access::Done

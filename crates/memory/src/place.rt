@@ -22,7 +22,7 @@ fn biased(base: u32, offset: u32) -> usize
     }
 }
 
-// The sizes of scalars have arms of their own: a remainder by a literal is a mask, and any other a division.
+// The alignments in use have arms of their own: a remainder by a literal is a mask, and any other a division.
 fn is_multiple(address: usize, alignment: usize) -> bool
     requires { ⌜ 0 < alignment ⌝ }
     ensures { λ r. ⌜ r ≡ eqb (address % alignment) 0 ⌝ }

@@ -39,8 +39,11 @@ fn main() {
         std::process::exit(2);
     }
     let is_wanted = |part: &Part| if wanted.is_empty() { part.name != "all-words" } else { wanted.iter().any(|name| name == part.name) };
-    let same: Vec<bool> =
-        parts.iter().filter(|part| is_wanted(part)).map(|part| compare(part.title, part.seeds.clone(), part.case)).collect();
+    let same: Vec<bool> = parts
+        .iter()
+        .filter(|part| is_wanted(part))
+        .map(|part| compare(part.title, part.seeds.clone(), part.name == "runs", part.case))
+        .collect();
     let passed = same.iter().filter(|x| **x).count();
     println!("{passed} passed, {} failed", same.len() - passed);
     if passed < same.len() {

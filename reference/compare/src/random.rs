@@ -221,9 +221,9 @@ impl Random {
         part.into_iter().map(|i| write(i).expect("a word")).collect()
     }
 
-    /// An address such as programs use: of a block, a word or a byte of memory.
+    /// An address such as programs use: of a block, a byte of memory, or most often a word, where the vectors of two threads overlap.
     pub fn address(&mut self, memory: usize) -> u32 {
-        let step = self.of(&[64, 64, 64, 4, 4, 1]);
+        let step = self.of(&[64, 64, 4, 4, 4, 1]);
         step * self.below(memory as u64 / step as u64) as u32
     }
 

@@ -1,13 +1,19 @@
 //! What a comparison met: cases, issues and numbers, or the first difference with its seed and its program.
 
 use reference::machine::{Record, Status};
-use reference::run::Ending;
+use reference::run::{Ending, Moved};
 use std::any::Any;
 use std::cell::RefCell;
 use std::ops::RangeInclusive;
 use std::panic::{catch_unwind, AssertUnwindSafe};
 use std::sync::atomic::{AtomicU64, Ordering};
 use std::thread::{available_parallelism, scope};
+
+/// What is counted of vectors: those at no multiple of 64, and those stored over a part of the last one of another thread in that run.
+const VECTORS: [&str; 2] = ["over two blocks", "stored over a part of another thread's"];
+
+/// The last vector that each thread stored in a run.
+pub type Stored = [Option<Moved>; 8];
 
 #[derive(Default)]
 pub struct Tally {
@@ -16,6 +22,7 @@ pub struct Tally {
     numbers: [u64; 11],
     endings: [u64; 3],
     traps: [u64; 7],
+    vectors: [u64; VECTORS.len()],
     /// The program of the case, for the listing of a difference.
     program: RefCell<Vec<u32>>,
 }
@@ -39,11 +46,29 @@ impl Tally {
         }
     }
 
+    /// An issue of thread t, and the vector that it moved.
+    pub fn issued(&mut self, t: usize, moved: Option<Moved>, stored: &mut Stored) {
+        let Some(vector) = moved else { return };
+        self.vectors[0] += (vector.at % 64 != 0) as u64;
+        if vector.is_store {
+            stored[t] = None;
+            self.vectors[1] += stored.iter().flatten().any(|other| overlap(*other, vector)) as u64;
+            stored[t] = Some(vector);
+        }
+    }
+
     /// One call compared, and the number that both sides gave.
     pub fn met(&mut self, number: u32) {
         self.cases += 1;
         self.numbers[number as usize] += 1;
     }
+}
+
+/// Whether lanes of two vectors at different addresses that were on share bytes.
+fn overlap(a: Moved, b: Moved) -> bool {
+    let (low, high) = if a.at < b.at { (a, b) } else { (b, a) };
+    let apart = (high.at - low.at) / 4;
+    (1..16).contains(&apart) && low.lanes >> apart & high.lanes != 0
 }
 
 /// Panics with the first place where two lists differ.
@@ -102,7 +127,8 @@ fn summary(tallies: &[&Tally]) -> String {
     let numbers = list("numbers ", &digits, &|tally, i| tally.numbers[i]);
     let ended = list("", &endings, &|tally, i| tally.endings[i]);
     let traps = list("traps ", &digits[..7], &|tally, i| tally.traps[i]);
-    format!("{} calls{numbers}{issues}{ended}{traps}", sum(&|tally| tally.cases))
+    let vectors = list("vectors ", &VECTORS.map(String::from), &|tally, i| tally.vectors[i]);
+    format!("{} calls{numbers}{issues}{ended}{traps}{vectors}", sum(&|tally| tally.cases))
 }
 
 /// The seeds of a random comparison: so many, or REPEAT times as many.
@@ -111,8 +137,8 @@ pub fn repeated(seeds: u64) -> RangeInclusive<u64> {
     1..=(seeds as f64 * repeat) as u64
 }
 
-/// Runs a comparison over its seeds, on every processor; whether no difference was met.
-pub fn compare(name: &str, seeds: RangeInclusive<u64>, case: impl Fn(u64, &mut Tally) + Sync) -> bool {
+/// Runs a comparison over its seeds, on every processor; whether no difference was met, and vectors of every kind where it moves any.
+pub fn compare(name: &str, seeds: RangeInclusive<u64>, moves_vectors: bool, case: impl Fn(u64, &mut Tally) + Sync) -> bool {
     let threads = available_parallelism().map_or(1, |n| n.get());
     let (first, case) = (AtomicU64::new(u64::MAX), &case);
     let parts: Vec<(Tally, Option<(u64, String)>)> = scope(|s| {
@@ -132,5 +158,10 @@ pub fn compare(name: &str, seeds: RangeInclusive<u64>, case: impl Fn(u64, &mut T
     }
     let tallies: Vec<&Tally> = parts.iter().map(|(tally, _)| tally).collect();
     println!("{name}: {}", summary(&tallies));
+    let missing = (0..VECTORS.len()).find(|i| tallies.iter().all(|tally| tally.vectors[*i] == 0));
+    if let (true, Some(i)) = (moves_vectors, missing) {
+        println!("{name}: no vector was {}", VECTORS[i]);
+        return false;
+    }
     true
 }

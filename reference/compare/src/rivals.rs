@@ -3,10 +3,10 @@
 
 use compare::machines::{budget, mask, Machine};
 use compare::random::Random;
-use compare::report::{compare, repeated, same, Tally};
+use compare::report::{compare, repeated, same, Stored, Tally};
 use reference::image::record_bytes;
 use reference::machine::Record;
-use reference::run::run;
+use reference::run::run_seen;
 use std::ffi::{c_char, CStr};
 
 /// A record, its numbers in the order of reference/bench/rival.h.
@@ -43,8 +43,9 @@ fn rival_record(record: &Record) -> RivalRecord {
 /// One run by the second program, and by each rival on a copy of the machine.
 fn run_all(machine: &mut Machine, program: &[u32], budget: u32, tally: &mut Tally) {
     tally.show(program);
-    let before = machine.clone();
-    let (answer, made) = run(program, &mut machine.room, &mut machine.memory, &mut machine.record, budget);
+    let (before, mut stored) = (machine.clone(), Stored::default());
+    let seen = |t, moved| tally.issued(t, moved, &mut stored);
+    let (answer, made) = run_seen(program, &mut machine.room, &mut machine.memory, &mut machine.record, budget, seen);
     let ending = answer.expect("a run that is not refused");
     for rival in all_rivals() {
         let name = unsafe { CStr::from_ptr(rival.name) }.to_string_lossy();
@@ -77,7 +78,7 @@ fn lists(seed: u64, tally: &mut Tally) {
 
 fn main() {
     std::panic::set_hook(Box::new(|_| {}));
-    if !compare("runs of the rivals", repeated(20_000), lists) {
+    if !compare("runs of the rivals", repeated(20_000), true, lists) {
         std::process::exit(1);
     }
 }

@@ -4,9 +4,9 @@ use crate::library::{self, ending_number, record_bytes, zero_bytes};
 use crate::records::{any_record, damaged, stand_in, Verdicts};
 use compare::machines::{budget, mask, Machine};
 use compare::random::Random;
-use compare::report::{same, Tally};
+use compare::report::{same, Stored, Tally};
 use reference::machine::{start, Record, ROOM_WORDS, ZERO};
-use reference::run::run;
+use reference::run::{run, run_seen};
 
 /// Two machines that must stay the same: the second program's, and the library's.
 struct Pair {
@@ -50,8 +50,9 @@ impl Pair {
     fn run(&mut self, program: &[u32], budget: u32, tally: &mut Tally) {
         tally.show(program);
         let m = &mut self.machine;
-        let (mut result, before) = ([9; 2], m.record);
-        let (answer, made) = run(program, &mut m.room, &mut m.memory, &mut m.record, budget);
+        let (mut result, before, mut stored) = ([9; 2], m.record, Stored::default());
+        let seen = |t, moved| tally.issued(t, moved, &mut stored);
+        let (answer, made) = run_seen(program, &mut m.room, &mut m.memory, &mut m.record, budget, seen);
         let number = library::run(program, &mut self.room2, &mut self.memory2, &mut self.record2, budget, &mut result);
         match answer {
             Ok(ending) => {

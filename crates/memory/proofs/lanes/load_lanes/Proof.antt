@@ -14,12 +14,12 @@ goes : (c : tie.After-locate) → let a = c .before .before .args in vectorPlace
 goes c = sym (c .locate .ensures)
 
 read-lanes-requires : tie.Need-read-lanes-requires
-read-lanes-requires c κs = within _ _ _ _ (goes (c .before .before .before) ∙ ap ofPlace (c .before .place .given .1))
+read-lanes-requires c κs = within _ _ _ _ (goes (c .before .before .before) ∙ ap ofPlace (c .before .from .given .1))
 
 returns : tie.Need-returns
 unfolding loadLanes
 returns c =
-    rw (goes (c .before .before .before .before) ∙ ap ofPlace (c .before .before .place .given .1))
+    rw (goes (c .before .before .before .before) ∙ ap ofPlace (c .before .before .from .given .1))
     (ap (λ l. ofLanes (record { access = Access.Done; lanes = l })) (c .read-lanes .ensures))
 
 returns-2 : tie.Need-returns-2

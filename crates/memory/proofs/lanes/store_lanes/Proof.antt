@@ -13,12 +13,12 @@ goes : (c : tie.After-locate) → let a = c .before .before .args in vectorPlace
 goes c = sym (c .locate .ensures)
 
 write-lanes-requires : tie.Need-write-lanes-requires
-write-lanes-requires c κs = within _ _ _ _ (goes (c .before .before .before .before) ∙ ap ofPlace (c .before .before .place .given .1))
+write-lanes-requires c κs = within _ _ _ _ (goes (c .before .before .before .before) ∙ ap ofPlace (c .before .before .to .given .1))
 
 returns : tie.Need-returns
 unfolding storeLanes
 returns c =
-    rw (goes (c .before .before .before .before .before .before .before) ∙ ap ofPlace (c .before .before .before .before .before .place .given .1))
+    rw (goes (c .before .before .before .before .before .before .before) ∙ ap ofPlace (c .before .before .before .before .before .to .given .1))
     (ap (storeResult Access.Done) (c .before .before .write-lanes .ensures))
 
 returns-2 : tie.Need-returns-2
