@@ -5,3 +5,5 @@ pub mod Counts
 pub mod Signs
 pub mod Signed
 pub mod Unsigned
+pub mod Ordered
+pub mod OneRule

@@ -1,17 +1,27 @@
 -- What is proved of the definitions.
 use Prim.Native.Nat.{ℕ, _<_, _≤_, _%_, _^_}
-use mathlib.Core.Bool.{true}
+use mathlib.Core.Bool.{Bool, true, false, not}
+use mathlib.Core.List.{List, [], _∷_}
 use mathlib.Core.Logic.{_↔_}
+use mathlib.Core.Option.{some}
 use mathlib.Core.Path.{_≡_}
-use lib.IntN.{_*ℤ_}
-use lib.Signed.{ltZ, leZ, shrZ}
+use lib.IntN.{ℤ, _*ℤ_}
+use lib.Signed.{ltZ, leZ, shrZ, _<ℤ_}
 use Rattle.isa.specs.declared.instruction.BinaryOp.the-variants.{Mulhi, Ashr}
 use Rattle.isa.specs.declared.instruction.UnaryOp.the-variants.{Clz, Ctz, Sext8, Sext16}
+use Rattle.isa.specs.declared.instruction.CompareOp.{CompareOp}
 use Rattle.isa.specs.declared.instruction.CompareOp.the-variants.{Eq, Ne, Gt, Ge, Lt, Le, Ugt, Uge, Ult, Ule}
+use Rattle.isa.specs.Table.{operationAt, tableR}
+use Rattle.isa.specs.declared.instruction.Operation.the-variants.{Compare}
+use Rattle.alu.specs.declared.rows.CompareRow.{CompareRow}
+use Rattle.alu.specs.declared.rows.Kind.{Kind}
+use Rattle.alu.specs.declared.rows.Kind.the-variants.{Unsigned, Signed}
+use Rattle.alu.specs.declared.rows.Ordering.the-variants.{Below, Equal, Above}
 use Rattle.alu.specs.Word.{value}
 use Rattle.alu.specs.Binary.{binary, distance}
 use Rattle.alu.specs.Unary.{unary}
 use Rattle.alu.specs.Compare.{compare}
+use Rattle.alu.specs.Order.{ordering, row, answer}
 
 -- "7 mulhi (signed)": the signed product, divided by 2^32 and rounded down
 abbrev pub MulhiIsSigned : Type 0
@@ -53,3 +63,78 @@ pub record ComparesAreUnsigned (x y : ℕ) : Type 0 where
 
 abbrev pub UnsignedOrder : Type 0
 UnsignedOrder = (x y : ℕ) → ComparesAreUnsigned x y
+
+-- ---- the compares as one rule (document 02, T-07)
+
+-- "one three-way ordering": each outcome is one order of the whole numbers
+pub record ThreeWays (z w : ℤ) : Type 0 where
+  pub below : (ordering z w ≡ Below) ↔ (z <ℤ w)
+  pub equal : (ordering z w ≡ Equal) ↔ (z ≡ w)
+  pub above : (ordering z w ≡ Above) ↔ (w <ℤ z)
+
+abbrev pub OrdersNumbers : Type 0
+OrdersNumbers = (z w : ℤ) → ThreeWays z w
+
+-- "for all operands that each answers yes exactly by its row"
+abbrev pub ByRow : CompareRow → CompareOp → Type 0
+ByRow r op = (x y : ℕ) → x < 2 ^ 32 → y < 2 ^ 32 → compare op x y ≡ answer r x y
+
+-- "answer oppositely"
+abbrev pub Opposite : CompareOp → CompareOp → Type 0
+Opposite p q = (x y : ℕ) → x < 2 ^ 32 → y < 2 ^ 32 → compare q x y ≡ not (compare p x y)
+
+-- "agree with operands exchanged"
+abbrev pub Exchanged : CompareOp → CompareOp → Type 0
+Exchanged p q = (x y : ℕ) → x < 2 ^ 32 → y < 2 ^ 32 → compare q y x ≡ compare p x y
+
+-- R's opcode n is a compare's, and P holds of that compare
+pub record At (n : ℕ) (P : CompareOp → Type 0) : Type 0 where
+  pub op : CompareOp
+  pub named : operationAt tableR n ≡ some (Compare op)
+  pub holds : P op
+
+-- an opcode, what its operands stand for, and whether below, equal and above count as yes
+pub record TableRow : Type 0 where
+  pub opcode : ℕ
+  pub columns : CompareRow
+
+abbrev pub tableRow : ℕ → Kind → Bool → Bool → Bool → TableRow
+tableRow opcode kind below equal above = record { opcode = opcode; columns = row kind below equal above }
+
+abbrev pub Each : List TableRow → Type 0
+Each [] = Unit {0}
+Each (r ∷ rs) = At (r .opcode) (ByRow (r .columns)) × Each rs
+
+-- two opcodes
+pub record Pair : Type 0 where
+  pub first : ℕ
+  pub second : ℕ
+
+abbrev pub pair : ℕ → ℕ → Pair
+pair first second = record { first = first; second = second }
+
+abbrev pub EachPair : (CompareOp → CompareOp → Type 0) → List Pair → Type 0
+EachPair R [] = Unit {0}
+EachPair R (p ∷ ps) = At (p .first) (λ op. At (p .second) (λ other. R op other)) × EachPair R ps
+
+-- "14 cmpeq, 15 cmpne, signed 16 cmpgt, 17 cmpge, 18 cmplt, 19 cmple, unsigned 20 cmpugt, 21 cmpuge, 22 cmpult, 23 cmpule"
+unfoldable pub EachByRow : Type 0
+EachByRow = Each (
+    tableRow 14 Unsigned false true false ∷
+    tableRow 15 Unsigned true false true ∷
+    tableRow 16 Signed false false true ∷
+    tableRow 17 Signed false true true ∷
+    tableRow 18 Signed true false false ∷
+    tableRow 19 Signed true true false ∷
+    tableRow 20 Unsigned false false true ∷
+    tableRow 21 Unsigned false true true ∷
+    tableRow 22 Unsigned true false false ∷
+    tableRow 23 Unsigned true true false ∷ [])
+
+-- "14 and 15, 16 and 19, 17 and 18, 20 and 23, 21 and 22 answer oppositely"
+unfoldable pub PairsOpposite : Type 0
+PairsOpposite = EachPair Opposite (pair 14 15 ∷ pair 16 19 ∷ pair 17 18 ∷ pair 20 23 ∷ pair 21 22 ∷ [])
+
+-- "16 and 18, 17 and 19, 20 and 22, 21 and 23 agree with operands exchanged"
+unfoldable pub PairsExchanged : Type 0
+PairsExchanged = EachPair Exchanged (pair 16 18 ∷ pair 17 19 ∷ pair 20 22 ∷ pair 21 23 ∷ [])

@@ -3,4 +3,5 @@ pub mod Word
 pub mod Binary
 pub mod Unary
 pub mod Compare
+pub mod Order
 pub mod Claims

@@ -1,9 +1,15 @@
 // Operations on 32-bit words (document 01, "The words").
 mod extend;
 mod product;
+mod rows;
 mod scalar;
 mod shift;
 
+pub use rows::CompareRow;
+pub use rows::Kind;
+pub use rows::Ordering;
+pub use rows::compare_row;
+pub use rows::order;
 pub use scalar::binary;
 pub use scalar::compare;
 pub use scalar::unary;

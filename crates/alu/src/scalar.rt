@@ -1,6 +1,5 @@
 // The three families of operations on words: two operands, one operand, compares.
 ghost use mathlib.Core.Path.{_≡_};
-ghost use Rattle.alu.specs.Word.{rank};
 ghost use Rattle.alu.specs.Binary.{binary};
 ghost use Rattle.alu.specs.Unary.{unary};
 ghost use Rattle.alu.specs.Compare.{compare};
@@ -9,6 +8,9 @@ use crate::extend::sext16;
 use crate::product::mulhi;
 use crate::product::mulhu;
 use crate::product::mullo;
+use crate::rows::compare_row;
+use crate::rows::order;
+use crate::rows::pick;
 use crate::shift::ashr;
 use crate::shift::shl;
 use crate::shift::shr;
@@ -46,26 +48,10 @@ pub fn unary(op: UnaryOp, x: u32) -> u32
     }
 }
 
-// The signed order of words is the unsigned order of their ranks.
-fn rank(x: u32) -> u32
-    ensures { λ r. ⌜ r ≡ rank x ⌝ }
-{
-    std::num::wrapping_add_u32(x, 2147483648)
-}
-
 pub fn compare(op: CompareOp, x: u32, y: u32) -> bool
     ensures { λ r. ⌜ r ≡ compare op x y ⌝ }
 {
-    match op {
-        CompareOp::Eq => x == y,
-        CompareOp::Ne => x != y,
-        CompareOp::Gt => rank(y) < rank(x),
-        CompareOp::Ge => rank(y) <= rank(x),
-        CompareOp::Lt => rank(x) < rank(y),
-        CompareOp::Le => rank(x) <= rank(y),
-        CompareOp::Ugt => y < x,
-        CompareOp::Uge => y <= x,
-        CompareOp::Ult => x < y,
-        CompareOp::Ule => x <= y,
-    }
+    let row = compare_row(op);
+    let kind = row.kind;
+    pick(order(kind, x, y), row.below, row.equal, row.above)
 }

@@ -1,36 +1,20 @@
 // A compare of sixteen lanes as a bit a lane.
+ghost use mathlib.Core.Bool.{true, false};
 ghost use mathlib.Core.Path.{_≡_};
 ghost use Rattle.alu.specs.Compare.{compare};
+ghost use Rattle.alu.specs.Order.{pick};
 ghost use Rattle.compares.specs.Lanes.{compareLanes};
-ghost use Rattle.compares.specs.Outcome.{biasOf, flagsOf, outcomesOf, answersOf};
-use alu::compare;
+ghost use Rattle.compares.specs.Outcome.{flagsOf, outcomesOf, answersOf};
+use alu::Kind;
+use alu::Ordering;
 use isa::CompareOp;
 
-// How a compare answers where x is below, equal to or above y, after `bias` is added to both: 16 ones for yes, 0 for no.
-// The lane loop then has no branch, and one loop serves every compare.
+// A compare's row with its columns as lanes take them: 16 ones for an outcome that counts as yes, 0 for another.
 struct Outcomes {
-    bias: u32,
+    kind: Kind,
     below: u32,
     equal: u32,
     above: u32,
-}
-
-// Adding 2^31 to both turns the signed order into the unsigned one.
-fn bias(op: CompareOp) -> u32
-    ensures { λ r. ⌜ r ≡ biasOf op ⌝ }
-{
-    match op {
-        CompareOp::Eq => 0,
-        CompareOp::Ne => 0,
-        CompareOp::Gt => 2147483648,
-        CompareOp::Ge => 2147483648,
-        CompareOp::Lt => 2147483648,
-        CompareOp::Le => 2147483648,
-        CompareOp::Ugt => 0,
-        CompareOp::Uge => 0,
-        CompareOp::Ult => 0,
-        CompareOp::Ule => 0,
-    }
 }
 
 fn flags(yes: bool) -> u32
@@ -39,30 +23,61 @@ fn flags(yes: bool) -> u32
     if yes { 65535 } else { 0 }
 }
 
-// A compare answers alike for all operands in one order: 0 and 1 stand for them.
 fn outcomes_of(op: CompareOp) -> Outcomes
     ensures { λ r. ⌜ r ≡ outcomesOf op ⌝ }
 {
+    let row = alu::compare_row(op);
+    let kind = row.kind;
     Outcomes {
-        bias: bias(op),
-        below: flags(compare(op, 0, 1)),
-        equal: flags(compare(op, 0, 0)),
-        above: flags(compare(op, 1, 0)),
+        kind,
+        below: flags(row.below),
+        equal: flags(row.equal),
+        above: flags(row.above),
     }
+}
+
+fn is_below(outcome: Ordering) -> bool
+    ensures { λ r. ⌜ r ≡ pick outcome true false false ⌝ }
+{
+    match outcome {
+        Ordering::Below => true,
+        Ordering::Equal => false,
+        Ordering::Above => false,
+    }
+}
+
+fn is_equal(outcome: Ordering) -> bool
+    ensures { λ r. ⌜ r ≡ pick outcome false true false ⌝ }
+{
+    match outcome {
+        Ordering::Below => false,
+        Ordering::Equal => true,
+        Ordering::Above => false,
+    }
+}
+
+// Two tests in place of a match on the outcome: the lane loop then has no branch.
+fn pick(outcome: Ordering, below: u32, equal: u32, above: u32) -> u32
+    ensures { λ r. ⌜ r ≡ pick outcome below equal above ⌝ }
+{
+    if is_below(outcome) {
+        return below;
+    }
+    if is_equal(outcome) {
+        return equal;
+    }
+    above
 }
 
 fn answer(op: CompareOp, o: Outcomes, x: u32, y: u32) -> u32
     requires { ⌜ o ≡ outcomesOf op ⌝ }
     ensures { λ r. ⌜ r ≡ flagsOf (compare op x y) ⌝ }
 {
-    let a = std::num::wrapping_add_u32(x, o.bias);
-    let b = std::num::wrapping_add_u32(y, o.bias);
-    if a < b {
-        return o.below;
-    }
-    if a == b { o.equal } else { o.above }
+    let kind = o.kind;
+    pick(alu::order(kind, x, y), o.below, o.equal, o.above)
 }
 
+// The row is looked up outside the loop: one loop serves every compare.
 fn answers(op: CompareOp, o: Outcomes, x: [u32; 16], y: [u32; 16]) -> u32
     requires { ⌜ o ≡ outcomesOf op ⌝ }
     ensures { λ r. ⌜ r ≡ answersOf op x y ⌝ }

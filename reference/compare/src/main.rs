@@ -30,6 +30,7 @@ fn main() {
         Part { name: "all-words", title: "all words read, named and written again", seeds: 0..=0xFFFF, case: &words::reading_all },
         Part { name: "writing", title: "instructions written", seeds: 0..=words::FORMATS * words::OPCODES - 1, case: &words::writing },
         Part { name: "runs", title: "lists of runs", seeds: repeated(2_000_000), case: &runs::lists },
+        Part { name: "compares", title: "compares of operands at the edges", seeds: 0..=runs::COMPARES - 1, case: &runs::compares },
         Part { name: "refusals", title: "hostile records run, and starts", seeds: repeated(200_000), case: &refusals },
         Part { name: "images", title: "hostile records and images written and read", seeds: repeated(200_000), case: &images },
     ];

@@ -7,6 +7,7 @@ use compare::random::Random;
 use compare::report::{same, Stored, Tally};
 use reference::machine::{start, Record, ROOM_WORDS, ZERO};
 use reference::run::{run, run_seen};
+use reference::word::{write, Instruction};
 
 /// Two machines that must stay the same: the second program's, and the library's.
 struct Pair {
@@ -94,6 +95,56 @@ pub fn lists(seed: u64, tally: &mut Tally) {
             bytes[random.of(&[0, 1, 4, 6, 55])] ^= 1;
             pair.refused(&program, bytes, ZERO, 10, tally);
         }
+    }
+}
+
+/// Operands that are equal, next to each other or of other signs; and immediates next to some of them.
+const EDGES: [u32; 16] = [
+    0,
+    1,
+    2,
+    254,
+    255,
+    256,
+    0x4000_0000,
+    0x7FFF_FFFE,
+    0x7FFF_FFFF,
+    0x8000_0000,
+    0x8000_0001,
+    0xFFFF_FEFF,
+    0xFFFF_FF00,
+    0xFFFF_FF01,
+    0xFFFF_FFFE,
+    0xFFFF_FFFF,
+];
+const IMMEDIATES: [i32; 8] = [-256, -255, -2, -1, 0, 1, 254, 255];
+
+/// Compares and the forms of their words, R's four flags and then I's two.
+pub const COMPARES: u64 = 10 * 6;
+
+/// Seed by seed one compare in one form, on all pairs of these operands: in scalars, or in lanes each of which has another pair.
+pub fn compares(seed: u64, tally: &mut Tally) {
+    let (opcode, form) = (14 + (seed % 10) as u8, seed as usize / 10);
+    let mut machine = Machine::started(&mut Random::new(seed), 1);
+    for i in 0..16 {
+        machine.room[16 + i] = EDGES[i];
+        for j in 0..16 {
+            machine.room[512 + 16 * (16 + i) + j] = EDGES[(i + j) % 16];
+        }
+    }
+    let record = record_bytes(&machine.record);
+    let mut pair = Pair::new(machine, record);
+    for n in 0..256 {
+        let (d, a, b) = (1, 16 + (n / 16) as u8, 16 + (n % 16) as u8);
+        let instruction = match form {
+            0..=3 => Instruction::R { opcode, flags: [0b000, 0b011, 0b010, 0b001][form], d, a, b },
+            _ => Instruction::I { opcode, flags: [0b00, 0b01][form - 4], d, a, immediate: IMMEDIATES[n % 8] },
+        };
+        let mask = if n % 3 == 0 { 0x5AC3 } else { 0xFFFF };
+        for room in [&mut pair.machine.room, &mut pair.room2] {
+            (room[59], room[63]) = (mask, 0);
+        }
+        pair.run(&[write(instruction).expect("a word")], 1, tally);
     }
 }
 

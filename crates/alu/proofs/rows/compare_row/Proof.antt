@@ -1,0 +1,39 @@
+-- `rows::compare_row` meets its contract: in each arm the compare is known.
+use borrow.Author.Needs.{needs}
+use Rattle.alu.proofs.rows.compare_row.Statement.{statement}
+use Rattle.alu.proofs.rows.compare_row.Tie as tie
+
+pub compare-row-spec : {M : Type 1} → statement M
+compare-row-spec =
+    tie.close
+    (tie.spec
+    (λ c. search needs)
+    (λ c κs. search needs)
+    (λ c. search needs)
+    (λ c κs. search needs)
+    (λ c. search needs)
+    (λ c κs. search needs)
+    (λ c. search needs)
+    (λ c κs. search needs)
+    (λ c. search needs)
+    (λ c κs. search needs)
+    (λ c. search needs)
+    (λ c κs. search needs)
+    (λ c. search needs)
+    (λ c κs. search needs)
+    (λ c. search needs)
+    (λ c κs. search needs)
+    (λ c. search needs)
+    (λ c κs. search needs)
+    (λ c. search needs)
+    (λ c κs. search needs)
+    (λ c. rw (c .before .enum-told .given .1) (c .row .ensures))
+    (λ c. rw (c .before .enum-told2 .given .1) (c .row2 .ensures))
+    (λ c. rw (c .before .enum-told3 .given .1) (c .row3 .ensures))
+    (λ c. rw (c .before .enum-told4 .given .1) (c .row4 .ensures))
+    (λ c. rw (c .before .enum-told5 .given .1) (c .row5 .ensures))
+    (λ c. rw (c .before .enum-told6 .given .1) (c .row6 .ensures))
+    (λ c. rw (c .before .enum-told7 .given .1) (c .row7 .ensures))
+    (λ c. rw (c .before .enum-told8 .given .1) (c .row8 .ensures))
+    (λ c. rw (c .before .enum-told9 .given .1) (c .row9 .ensures))
+    (λ c. rw (c .before .enum-told10 .given .1) (c .row10 .ensures)))
