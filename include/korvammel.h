@@ -8,6 +8,12 @@
  * others under 1,024). It uses the red zone, the 128 bytes below the stack pointer, which are among these: an interrupt that comes in
  * on the same stack has to leave them alone. Of the C library it calls memset.
  *
+ * Float words (R opcodes 33 to 42) are worked out by the processor's float unit: korvammel_run has to be called with the default
+ * floating-point environment, rounding to nearest, with no flush to zero and no denormals as zero (MXCSR as the system sets it). A
+ * program that is linked with -ffast-math (or -Ofast, -funsafe-math-optimizations) does not have it: what GCC links in then sets
+ * both at the start. Nor has one that calls fesetround or writes MXCSR and does not set it back. Floating-point exceptions have to stay
+ * masked, as they are there: a run sets the flags of that environment.
+ *
  * A pointer is never null, and is aligned for its type. It points to an array of the length that stands beside it, or of the length
  * in brackets. An array that a call writes shares no byte with another that the call takes.
  *

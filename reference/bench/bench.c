@@ -78,6 +78,30 @@ static const uint32_t minute_words[] = {
     0x7003FFF0, // jmp to the load
 };
 
+static const uint32_t float_words[] = {
+    0x6104FE00, // moveih s1: 1
+    0x6108FC00, // moveih s2: a half
+    0x210C3040, // fadd s3,s3,s1
+    0x23103080, // fmul s4,s3,s2
+    0x241440C0, // fdiv s5,s4,s3
+    0x291840C0, // cmpflt s6,s4,s3
+    0x311C4000, // f32toi32 s7,s4
+    0x30207000, // i32tof32 s8,s7
+    0x22248100, // fsub s9,s8,s4
+    0x7003FFE4, // jmp to the fadd
+};
+static const uint32_t float_lane_words[] = {
+    0x6104FE02, // moveih v1: 1
+    0x6108FC02, // moveih v2: a half
+    0x210C304E, // fadd v3,v3,v1
+    0x2310308E, // fmul v4,v3,v2
+    0x241440CE, // fdiv v5,v4,v3
+    0x291840C6, // cmpflt s6,v4,v3
+    0x311C400C, // f32toi32 v7,v4
+    0x3020700C, // i32tof32 v8,v7
+    0x2224810E, // fsub v9,v8,v4
+    0x7003FFE4, // jmp to the fadd
+};
 
 struct workload {
     const char *name;
@@ -102,6 +126,8 @@ static const struct workload workloads[] = {
     {"night minutes", minute_words, LENGTH(minute_words), 255, 4096, 1000},
     {"256 words in a row", row_256, LENGTH(row_256), 1, 4000000, 1},
     {"16,384 words in a row", row_16384, LENGTH(row_16384), 1, 4000000, 1},
+    {"floats", float_words, LENGTH(float_words), 1, 4000000, 1},
+    {"floats in lanes", float_lane_words, LENGTH(float_lane_words), 1, 2000000, 1},
 };
 static const struct workload *const minute = &workloads[7];
 

@@ -14,6 +14,7 @@
 // vector by vector, since a lane depends on the same lane of the operands alone; not so in a shuffle.
 typedef uint32_t vector __attribute__((vector_size(16)));
 typedef int32_t signed_vector __attribute__((vector_size(16)));
+typedef float float_vector __attribute__((vector_size(16)));
 
 static const vector lane_bits[4] = {{1, 2, 4, 8}, {16, 32, 64, 128}, {256, 512, 1024, 2048}, {4096, 8192, 16384, 32768}};
 
@@ -53,6 +54,28 @@ INLINE void put_masked(void *lanes, int k, uint32_t mask, vector r) {
     INLINE uint32_t NAME##_1(uint32_t x, uint32_t y) { return (ONE)x OPERATOR(ONE) y; } \
     INLINE vector NAME##_4(vector x, vector y) { return (vector)((FOUR)x OPERATOR(FOUR) y); }
 
+// Patterns and floats; every NaN that is put is 0x7FC00000 (document 02, T-08).
+INLINE float value_1(uint32_t x) {
+    float r;
+    memcpy(&r, &x, sizeof r);
+    return r;
+}
+INLINE uint32_t pattern_1(float x) {
+    uint32_t r;
+    memcpy(&r, &x, sizeof r);
+    return x != x ? 0x7FC00000 : r;
+}
+INLINE vector pattern_4(float_vector x) {
+    vector nan = (vector)(x != x);
+    return ((vector)x & ~nan) | (nan & 0x7FC00000);
+}
+#define FLOAT(NAME, OPERATOR)                                                                               \
+    INLINE uint32_t NAME##_1(uint32_t x, uint32_t y) { return pattern_1(value_1(x) OPERATOR value_1(y)); }  \
+    INLINE vector NAME##_4(vector x, vector y) { return pattern_4((float_vector)x OPERATOR(float_vector) y); }
+#define FLOAT_COMPARE(NAME, OPERATOR)                                                            \
+    INLINE uint32_t NAME##_1(uint32_t x, uint32_t y) { return value_1(x) OPERATOR value_1(y); }  \
+    INLINE vector NAME##_4(vector x, vector y) { return (vector)((float_vector)x OPERATOR(float_vector) y); }
+
 BOTH(or, x | y)
 BOTH(and, x & y)
 BOTH(xor, x ^ y)
@@ -78,10 +101,25 @@ COMPARE(cmpugt, uint32_t, vector, >)
 COMPARE(cmpuge, uint32_t, vector, >=)
 COMPARE(cmpult, uint32_t, vector, <)
 COMPARE(cmpule, uint32_t, vector, <=)
+FLOAT(fadd, +)
+FLOAT(fsub, -)
+FLOAT(fmul, *)
+FLOAT(fdiv, /)
+FLOAT_COMPARE(cmpfeq, ==)
+FLOAT_COMPARE(cmpfne, !=)
+FLOAT_COMPARE(cmpfgt, >)
+FLOAT_COMPARE(cmpfge, >=)
+FLOAT_COMPARE(cmpflt, <)
+FLOAT_COMPARE(cmpfle, <=)
+INLINE uint32_t i32tof32_1(uint32_t x) { return pattern_1((float)(int32_t)x); }
+INLINE vector i32tof32_4(vector x) { return (vector) __builtin_convertvector((signed_vector)x, float_vector); }
+ONE_OPERAND(f32toi32, value_1(x) >= -2147483648.0f && value_1(x) < 2147483648.0f ? (uint32_t)(int32_t)value_1(x) : 0x80000000)
 
 #define BINARIES(DO) \
     DO(1, or) DO(2, and) DO(3, xor) DO(4, add) DO(5, sub) DO(6, mullo) DO(7, mulhi) DO(8, mulhu) DO(9, ashr) DO(10, shr) DO(11, shl)
-#define UNARIES(DO) DO(12, clz) DO(13, ctz) DO(43, sext8) DO(44, sext16)
+#define UNARIES(DO) DO(12, clz) DO(13, ctz) DO(43, sext8) DO(44, sext16) DO(48, i32tof32) DO(49, f32toi32)
+#define FLOATS(DO) DO(33, fadd) DO(34, fsub) DO(35, fmul) DO(36, fdiv)
+#define FLOAT_COMPARES(DO) DO(37, cmpfeq) DO(38, cmpfne) DO(39, cmpfgt) DO(40, cmpfge) DO(41, cmpflt) DO(42, cmpfle)
 #define COMPARES(DO)                                                          \
     DO(14, cmpeq) DO(15, cmpne) DO(16, cmpgt) DO(17, cmpge) DO(18, cmplt) \
     DO(19, cmple) DO(20, cmpugt) DO(21, cmpuge) DO(22, cmpult) DO(23, cmpule)
@@ -248,9 +286,9 @@ enum rival_answer RUN(const uint32_t *program, size_t length, uint32_t *room, ui
 #define R_AND_I_LABELS(OPCODE, NAME) [OPCODE] = &&r_##NAME, [0x40 + OPCODE] = &&i_##NAME,
     static const void *const labels[256] = {
         [0 ... 255] = &&undefined,
-        BINARIES(R_AND_I_LABELS) UNARIES(R_LABEL) COMPARES(R_AND_I_LABELS)
+        BINARIES(R_AND_I_LABELS) UNARIES(R_LABEL) COMPARES(R_AND_I_LABELS) FLOATS(R_LABEL) FLOAT_COMPARES(R_LABEL)
         [24] = &&shuffle, [25] = &&getlane, [0x40 + 25] = &&getlane_immediate, [32] = &&move,
-        [33 ... 42] = &&not_fitted, [45] = &&not_fitted, [48 ... 49] = &&not_fitted,
+        [45] = &&not_fitted,
         [0x60] = &&moveil, [0x61] = &&moveih, [0x62] = &&movei,
         [0x70] = &&jmp, [0x71] = &&jmpsr, [0x72] = &&jret, [0x75] = &&beqz, [0x76] = &&bnez,
         [0x78] = &&barrier, [0x79] = &&readcr, [0x7A] = &&end,
@@ -283,6 +321,8 @@ enum rival_answer RUN(const uint32_t *program, size_t length, uint32_t *room, ui
     COMPARES(R_COMPARE)
     COMPARES(I_COMPARE)
     UNARIES(R_UNARY)
+    FLOATS(R_BINARY)
+    FLOAT_COMPARES(R_COMPARE)
 move:
     if ((w & 0xFFF) == 0 && D != 63) {
         s[D] = s[A];

@@ -1,4 +1,6 @@
 // A plain C interpreter of the house core, straight from documents 01 and 02, to measure against: a function a format, no cleverness.
+#include <string.h>
+
 #include "rival.h"
 
 struct machine {
@@ -17,6 +19,19 @@ static int32_t signed_bits(uint32_t w, int high, int low) {
     return (int32_t)(bits(w, high, low) << (32 - width)) >> (32 - width);
 }
 
+// A pattern's float, and a float's pattern, of which every NaN is 0x7FC00000 (document 02, T-08).
+static float value(uint32_t pattern) {
+    float x;
+    memcpy(&x, &pattern, sizeof x);
+    return x;
+}
+
+static uint32_t pattern(float x) {
+    uint32_t r;
+    memcpy(&r, &x, sizeof r);
+    return x != x ? 0x7FC00000 : r;
+}
+
 static uint32_t binary(int op, uint32_t x, uint32_t y) {
     switch (op) {
     case 1: return x | y;
@@ -29,7 +44,11 @@ static uint32_t binary(int op, uint32_t x, uint32_t y) {
     case 8: return (uint32_t)((uint64_t)x * y >> 32);
     case 9: return (uint32_t)((int32_t)x >> (y & 31));
     case 10: return x >> (y & 31);
-    default: return x << (y & 31);
+    case 11: return x << (y & 31);
+    case 33: return pattern(value(x) + value(y));
+    case 34: return pattern(value(x) - value(y));
+    case 35: return pattern(value(x) * value(y));
+    default: return pattern(value(x) / value(y));
     }
 }
 
@@ -39,7 +58,9 @@ static uint32_t unary(int op, uint32_t x) {
     case 13: return x ? (uint32_t)__builtin_ctz(x) : 32;
     case 32: return x;
     case 43: return (uint32_t)(int8_t)x;
-    default: return (uint32_t)(int16_t)x;
+    case 44: return (uint32_t)(int16_t)x;
+    case 48: return pattern((float)(int32_t)x);
+    default: return value(x) >= -2147483648.0f && value(x) < 2147483648.0f ? (uint32_t)(int32_t)value(x) : 0x80000000;
     }
 }
 
@@ -55,13 +76,19 @@ static int compare(int op, uint32_t x, uint32_t y) {
     case 20: return x > y;
     case 21: return x >= y;
     case 22: return x < y;
-    default: return x <= y;
+    case 23: return x <= y;
+    case 37: return value(x) == value(y);
+    case 38: return value(x) != value(y);
+    case 39: return value(x) > value(y);
+    case 40: return value(x) >= value(y);
+    case 41: return value(x) < value(y);
+    default: return value(x) <= value(y);
     }
 }
 
-static int is_binary(int op) { return op >= 1 && op <= 11; }
-static int is_unary(int op) { return op == 12 || op == 13 || op == 32 || op == 43 || op == 44; }
-static int is_compare(int op) { return op >= 14 && op <= 23; }
+static int is_binary(int op) { return (op >= 1 && op <= 11) || (op >= 33 && op <= 36); }
+static int is_unary(int op) { return op == 12 || op == 13 || op == 32 || op == 43 || op == 44 || op == 48 || op == 49; }
+static int is_compare(int op) { return (op >= 14 && op <= 23) || (op >= 37 && op <= 42); }
 
 // What an instruction leads to: the next word, another address, an end, a meeting, or a trap.
 enum next { ON, TO, END, MEETS, TRAP };
@@ -115,7 +142,7 @@ static struct outcome operate(uint32_t *s, uint32_t *v, int op, int dv, uint32_t
 
 static struct outcome do_r(uint32_t w, uint32_t *s, uint32_t *v) {
     int op = (int)bits(w, 29, 24);
-    if ((op >= 33 && op <= 42) || op == 45 || op == 48 || op == 49) return trap(6);
+    if (op == 45) return trap(6);
     if (!is_binary(op) && !is_unary(op) && !is_compare(op) && op != 24 && op != 25) return trap(3);
     if (bits(w, 4, 4)) return trap(6);
     uint32_t flags = bits(w, 3, 1), d = bits(w, 23, 18), a = bits(w, 17, 12), b = bits(w, 11, 6);

@@ -1,6 +1,7 @@
 //! The second program: the house core of document 01, written again from that paper alone and in plain Rust.
 //! It shares no table and no code with the proved crates, so that a slip in one is not repeated in the other.
 
+pub mod float;
 pub mod image;
 pub mod listing;
 pub mod machine;

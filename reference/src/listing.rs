@@ -24,11 +24,13 @@ pub fn listing(input: &[u8]) -> String {
 mod tests {
     use super::*;
 
+    /// T-08: "0x2D000000 takes its place as not fitted", and 0x21000000 "becomes fadd, in the lister too"
     #[test]
     fn figure() {
-        let input = [0x80, 0x10, 0x0C, 0x04, 0, 0, 0, 0, 0, 0, 0, 0x21, 0, 0, 0, 0x7A];
-        let text = "words 4\n00000000 040C1080 add\n00000004 00000000 undefined\n00000008 21000000 not-fitted\n0000000C 7A000000 end\n";
+        let input = [0x80, 0x10, 0x0C, 0x04, 0, 0, 0, 0, 0, 0, 0, 0x2D, 0, 0, 0, 0x7A];
+        let text = "words 4\n00000000 040C1080 add\n00000004 00000000 undefined\n00000008 2D000000 not-fitted\n0000000C 7A000000 end\n";
         assert_eq!(listing(&input), text);
+        assert_eq!(listing(&[0, 0, 0, 0x21]), "words 1\n00000000 21000000 fadd\n");
         for bad in [&input[..0], &input[..3]] {
             assert_eq!(listing(bad), "refused 1\n");
         }

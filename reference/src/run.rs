@@ -1,5 +1,6 @@
-//! Issues and runs (document 01, "Choosing and counting issues" and "One issue").
+//! Issues and runs (document 01, "Choosing and counting issues" and "One issue"; document 02, T-08).
 
+use crate::float;
 use crate::machine::{memory_allowed, Record, Status, ROOM_WORDS};
 use crate::word::{is_binary, is_compare, read, Instruction, Reading};
 
@@ -74,7 +75,7 @@ fn binary(opcode: u8, x: u32, y: u32) -> u32 {
         9 => ((x as i32) >> shift) as u32,
         10 => x >> shift,
         11 => x << shift,
-        _ => unreachable!("no such line"),
+        _ => float::binary(opcode, x, y),
     }
 }
 
@@ -85,7 +86,7 @@ fn unary(opcode: u8, x: u32) -> u32 {
         32 => x,
         43 => x as u8 as i8 as i32 as u32,
         44 => x as u16 as i16 as i32 as u32,
-        _ => unreachable!("no such line"),
+        _ => float::convert(opcode, x),
     }
 }
 
@@ -102,7 +103,7 @@ fn compare(opcode: u8, x: u32, y: u32) -> bool {
         21 => x >= y,
         22 => x < y,
         23 => x <= y,
-        _ => unreachable!("no such line"),
+        _ => float::compare(opcode, x, y),
     }
 }
 

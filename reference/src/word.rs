@@ -1,4 +1,4 @@
-//! Instruction words, read and written (document 01, "The words"; document 02, T-02).
+//! Instruction words, read and written (document 01, "The words"; document 02, T-02 and T-08).
 
 /// An instruction as a line of the paper has it, opcodes as the paper numbers them. Its fields may hold what no word has room for.
 #[derive(Clone, Copy, PartialEq, Eq, Debug)]
@@ -29,19 +29,19 @@ fn signed_bits(word: u32, high: u32, low: u32) -> i32 {
     ((bits(word, high, low) << (32 - width)) as i32) >> (32 - width)
 }
 
-/// "1 or, 2 and, .. 11 shl."
+/// "1 or, 2 and, .. 11 shl."; T-08: "33 to 36 (fadd, fsub, fmul, fdiv)"
 pub fn is_binary(opcode: u8) -> bool {
-    (1..=11).contains(&opcode)
+    matches!(opcode, 1..=11 | 33..=36)
 }
 
-/// "12 clz, 13 ctz .., 32 move, 43 sext8, 44 sext16"
+/// "12 clz, 13 ctz .., 32 move, 43 sext8, 44 sext16"; T-08: "48 i32tof32 and 49 f32toi32"
 pub fn is_unary(opcode: u8) -> bool {
-    matches!(opcode, 12 | 13 | 32 | 43 | 44)
+    matches!(opcode, 12 | 13 | 32 | 43 | 44 | 48 | 49)
 }
 
-/// "14 cmpeq, .. 23 cmpule"
+/// "14 cmpeq, .. 23 cmpule"; T-08: "compares 37 to 42"
 pub fn is_compare(opcode: u8) -> bool {
-    (14..=23).contains(&opcode)
+    matches!(opcode, 14..=23 | 37..=42)
 }
 
 const SHUFFLE: u8 = 24;
@@ -87,7 +87,8 @@ fn defined_if(fine: bool, instruction: Instruction) -> Reading {
 
 fn read_r(w: u32) -> Reading {
     let opcode = bits(w, 29, 24) as u8;
-    if matches!(opcode, 33..=42 | 45 | 48 | 49) {
+    // of document 01's list only this one is left: T-08 fits the others
+    if opcode == 45 {
         return Reading::NotFitted;
     }
     if !has_r_line(opcode) {
@@ -253,8 +254,20 @@ pub fn name(instruction: Instruction) -> String {
         24 => "shuffle",
         25 => "getlane",
         32 => "move",
+        33 => "fadd",
+        34 => "fsub",
+        35 => "fmul",
+        36 => "fdiv",
+        37 => "cmpfeq",
+        38 => "cmpfne",
+        39 => "cmpfgt",
+        40 => "cmpfge",
+        41 => "cmpflt",
+        42 => "cmpfle",
         43 => "sext8",
         44 => "sext16",
+        48 => "i32tof32",
+        49 => "f32toi32",
         _ => unreachable!("no such line"),
     };
     match instruction {
@@ -284,7 +297,8 @@ pub fn name(instruction: Instruction) -> String {
 mod tests {
     use super::*;
 
-    /// "0x040C1080 is add s3,s1,s2; .. 0x21000000 not fitted." T-02: "the case 0x62060000 becomes 0xFFFF8000."
+    /// "0x040C1080 is add s3,s1,s2; .." T-02: "the case 0x62060000 becomes 0xFFFF8000." T-08: "the word 0x21000000
+    /// becomes fadd .. 0x2D000000 takes its place as not fitted .. words of these opcodes off the layout give 7, not 8; l = 1 still gives 8"
     #[test]
     fn figures() {
         let defined = |w, i| {
@@ -299,7 +313,12 @@ mod tests {
         defined(0x82081000, Instruction::M { opcode: 2, register: 2, base: 1, offset: 0 });
         assert_eq!(read(0x00000000), Reading::Undefined);
         assert_eq!(read(0x04FC0000), Reading::Undefined);
-        assert_eq!(read(0x21000000), Reading::NotFitted);
+        defined(0x21000000, Instruction::R { opcode: 33, flags: 0b000, d: 0, a: 0, b: 0 });
+        assert_eq!(read(0x2D000000), Reading::NotFitted);
+        assert_eq!(read(0x2D000001), Reading::NotFitted);
+        assert_eq!(read(0x21000001), Reading::Undefined);
+        assert_eq!(read(0x21000010), Reading::NotFitted);
+        assert_eq!(read(0x30000040), Reading::Undefined);
     }
 
     /// "6: instruction to be written has no word"
@@ -309,6 +328,7 @@ mod tests {
         assert_eq!(write(Instruction::R { opcode: 4, flags: 0, d: 64, a: 0, b: 0 }), None);
         assert_eq!(write(Instruction::R { opcode: 12, flags: 0, d: 1, a: 0, b: 1 }), None);
         assert_eq!(write(Instruction::I { opcode: 4, flags: 0, d: 1, a: 0, immediate: 256 }), None);
+        assert_eq!(write(Instruction::I { opcode: 33, flags: 0, d: 1, a: 0, immediate: 0 }), None);
         assert_eq!(write(Instruction::J { opcode: 0, register: 1, offset: 0 }), None);
         assert_eq!(write(Instruction::C { opcode: 2, first: 1, second: 0 }), None);
     }

@@ -5,5 +5,7 @@ pub mod Counts
 pub mod Signs
 pub mod Signed
 pub mod Unsigned
+pub mod FloatRows
+pub mod FloatOrder
 pub mod Ordered
 pub mod OneRule

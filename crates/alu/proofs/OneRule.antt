@@ -11,12 +11,18 @@ use borrow.Author.Tests.{le-ltb, ltb-true, ltb-false}
 use Rattle.isa.specs.Table.{find, operationAt, tableR}
 use Rattle.isa.specs.declared.instruction.Operation.the-variants.{Compare}
 use Rattle.isa.specs.declared.instruction.CompareOp.{CompareOp}
-use Rattle.isa.specs.declared.instruction.CompareOp.the-variants.{Eq, Ne, Gt, Ge, Lt, Le, Ugt, Uge, Ult, Ule}
+use Rattle.isa.specs.declared.instruction.CompareOp.the-variants.{Eq, Ne, Gt, Ge, Lt, Le, Ugt, Uge, Ult, Ule, Feq, Fne, Fgt, Fge, Flt, Fle}
 use Rattle.alu.specs.declared.rows.Ordering.{Ordering}
-use Rattle.alu.specs.declared.rows.Ordering.the-variants.{Below, Equal, Above}
+use Rattle.alu.specs.declared.rows.Ordering.the-variants.{Below, Equal, Above, Unordered}
 use Rattle.alu.specs.declared.rows.CompareRow.{CompareRow}
-use Rattle.alu.specs.Order.{ordering, order, number, row, rowOf, counts, answer}
-use Rattle.alu.specs.Claims.{OrdersNumbers, Opposite, Exchanged, At, EachByRow, PairsOpposite, PairsExchanged}
+use Rattle.alu.specs.declared.rows.Kind.{Kind}
+use Rattle.alu.specs.declared.rows.Kind.the-variants.{Unsigned, Signed, Float}
+use Rattle.alu.specs.Word.{value}
+use Rattle.alu.specs.Order.{ordering, outcome, order, rowOf, counts, answer}
+use Rattle.float.specs.Floats.{value as float, fltOf, feqOf, fgtOf}
+use Rattle.float.proofs.Comparing.{equal-turned}
+use Rattle.alu.specs.Claims.{OrdersNumbers, Opposite, Exchanged, At, EachByRow, EachFloatByRow, PairsOpposite, PairsExchanged}
+use Rattle.alu.proofs.FloatRows.{Exclusive, exclusive}
 use Rattle.alu.proofs.Ordered.{by-row}
 
 -- ---- whole numbers in order
@@ -75,38 +81,63 @@ orders-numbers z w = record {
 
 -- ---- what holds of two rows holds of the compares that have them
 
--- a row that answers oppositely
+-- whole numbers are never unordered
+abbrev Ordered : Ordering → Type 0
+Ordered Below = Unit {0}
+Ordered Equal = Unit {0}
+Ordered Above = Unit {0}
+Ordered Unordered = ⊥
+
+abbrev Whole : Kind → Type 0
+Whole Unsigned = Unit {0}
+Whole Signed = Unit {0}
+Whole Float = ⊥
+
+ordered : (s t : Bool) → Ordered (cond s Below (cond t Above Equal))
+ordered true t = tt
+ordered false true = tt
+ordered false false = tt
+
+whole-ordered : (kind : Kind) → Whole kind → (x y : ℕ) → Ordered (order kind x y)
+whole-ordered Unsigned w x y = ordered (ltZ (pos x) (pos y)) (ltZ (pos y) (pos x))
+whole-ordered Signed w x y = ordered (ltZ (value 32 x) (value 32 y)) (ltZ (value 32 y) (value 32 x))
+whole-ordered Float w x y = absurd w
+
+-- a row that answers oppositely of what is ordered
 negated : CompareRow → CompareRow
-negated r = row (r .kind) (not (r .below)) (not (r .equal)) (not (r .above))
+negated r = record { kind = r .kind; below = not (r .below); equal = not (r .equal); above = not (r .above); unordered = r .unordered }
 
-counts-negated : (r : CompareRow) (o : Ordering) → counts (negated r) o ≡ not (counts r o)
+counts-negated : (r : CompareRow) (o : Ordering) → Ordered o → counts (negated r) o ≡ not (counts r o)
 unfolding negated
-counts-negated r Below = refl
-counts-negated r Equal = refl
-counts-negated r Above = refl
+counts-negated r Below h = refl
+counts-negated r Equal h = refl
+counts-negated r Above h = refl
+counts-negated r Unordered h = absurd h
 
-opposite : (p q : CompareOp) → rowOf q ≡ negated (rowOf p) → Opposite p q
+opposite : (p q : CompareOp) → rowOf q ≡ negated (rowOf p) → Whole (rowOf p .kind) → Opposite p q
 unfolding negated
-opposite p q e x y hx hy =
+opposite p q e w x y hx hy =
     by-row q x y hx hy
     ∙ ap (λ (r : CompareRow). answer r x y) e
-    ∙ counts-negated (rowOf p) (order (rowOf p .kind) x y)
+    ∙ counts-negated (rowOf p) (order (rowOf p .kind) x y) (whole-ordered (rowOf p .kind) w x y)
     ∙ ap not (sym (by-row p x y hx hy))
 
 -- a row that answers alike with operands exchanged
 mirrored : CompareRow → CompareRow
-mirrored r = row (r .kind) (r .above) (r .equal) (r .below)
+mirrored r = record { kind = r .kind; below = r .above; equal = r .equal; above = r .below; unordered = r .unordered }
 
 turned : Ordering → Ordering
 turned Below = Above
 turned Equal = Equal
 turned Above = Below
+turned Unordered = Unordered
 
 counts-turned : (r : CompareRow) (o : Ordering) → counts (mirrored r) (turned o) ≡ counts r o
 unfolding mirrored turned
 counts-turned r Below = refl
 counts-turned r Equal = refl
 counts-turned r Above = refl
+counts-turned r Unordered = refl
 
 ordering-turned : (z w : ℤ) → ordering w z ≡ turned (ordering z w)
 unfolding turned
@@ -118,13 +149,30 @@ ordering-turned z w = go (ltZ z w) (ltZ w z) (not-both z w)
     go false true h = refl
     go false false h = refl
 
+outcome-turned : (less same greater : Bool) → Exclusive less same greater → outcome greater same less ≡ turned (outcome less same greater)
+unfolding turned
+outcome-turned true true greater h = absurd (true≢false (h .less-same refl))
+outcome-turned true false true h = absurd (true≢false (h .less-greater refl))
+outcome-turned false true true h = absurd (true≢false (h .same-greater refl))
+outcome-turned true false false h = refl
+outcome-turned false true false h = refl
+outcome-turned false false true h = refl
+outcome-turned false false false h = refl
+
+order-turned : (kind : Kind) (x y : ℕ) → order kind y x ≡ turned (order kind x y)
+order-turned Unsigned x y = ordering-turned (pos x) (pos y)
+order-turned Signed x y = ordering-turned (value 32 x) (value 32 y)
+order-turned Float x y =
+    ap (λ (same : Bool). outcome (fgtOf x y) same (fltOf x y)) (equal-turned (float x) (float y))
+    ∙ outcome-turned (fltOf x y) (feqOf x y) (fgtOf x y) (exclusive x y)
+
 exchanged : (p q : CompareOp) → rowOf q ≡ mirrored (rowOf p) → Exchanged p q
 unfolding mirrored
 exchanged p q e x y hx hy =
     let r : CompareRow = rowOf p in
     by-row q y x hy hx
     ∙ ap (λ (s : CompareRow). answer s y x) e
-    ∙ ap (counts (mirrored r)) (ordering-turned (number (r .kind) x) (number (r .kind) y))
+    ∙ ap (counts (mirrored r)) (order-turned (r .kind) x y)
     ∙ counts-turned r (order (r .kind) x y)
     ∙ sym (by-row p x y hx hy)
 
@@ -155,17 +203,24 @@ each-by-row = (
   ),
 )
 
+pub each-float-by-row : EachFloatByRow
+unfolding EachFloatByRow find
+each-float-by-row = (
+  at Feq refl (by-row Feq),
+  (at Fne refl (by-row Fne), (at Fgt refl (by-row Fgt), (at Fge refl (by-row Fge), (at Flt refl (by-row Flt), (at Fle refl (by-row Fle), tt))))),
+)
+
 pub pairs-opposite : PairsOpposite
 unfolding PairsOpposite find negated
 pairs-opposite = (
-  at Eq refl (at Ne refl (opposite Eq Ne refl)),
+  at Eq refl (at Ne refl (opposite Eq Ne refl tt)),
   (
-    at Gt refl (at Le refl (opposite Gt Le refl)),
+    at Gt refl (at Le refl (opposite Gt Le refl tt)),
     (
-      at Ge refl (at Lt refl (opposite Ge Lt refl)),
+      at Ge refl (at Lt refl (opposite Ge Lt refl tt)),
       (
-        at Ugt refl (at Ule refl (opposite Ugt Ule refl)),
-        (at Uge refl (at Ult refl (opposite Uge Ult refl)), tt),
+        at Ugt refl (at Ule refl (opposite Ugt Ule refl tt)),
+        (at Uge refl (at Ult refl (opposite Uge Ult refl tt)), tt),
       ),
     ),
   ),

@@ -6,15 +6,16 @@ use native.Mathlib.Omega.{arith}
 use lib.Dec.{eqb, leb, ltb}
 use borrow.Author.Tests.{lt-ltb, le-ltb, le-leb, lt-leb, eq-eqb, ne-eqb, ltb-true, ltb-false}
 use Rattle.isa.specs.declared.instruction.CompareOp.{CompareOp}
-use Rattle.isa.specs.declared.instruction.CompareOp.the-variants.{Eq, Ne, Gt, Ge, Lt, Le, Ugt, Uge, Ult, Ule}
+use Rattle.isa.specs.declared.instruction.CompareOp.the-variants.{Eq, Ne, Gt, Ge, Lt, Le, Ugt, Uge, Ult, Ule, Feq, Fne, Fgt, Fge, Flt, Fle}
 use Rattle.alu.specs.declared.rows.Kind.{Kind}
 use Rattle.alu.specs.declared.rows.Kind.the-variants.{Unsigned, Signed}
 use Rattle.alu.specs.declared.rows.Ordering.{Ordering}
 use Rattle.alu.specs.declared.rows.Ordering.the-variants.{Below, Equal, Above}
 use Rattle.alu.specs.declared.rows.CompareRow.{CompareRow}
 use Rattle.alu.specs.Word.{rank}
-use Rattle.alu.specs.Order.{order, row, rowOf, counts, biasOf}
+use Rattle.alu.specs.Order.{order, biasOf, orderBiased, row, rowOf, counts}
 use Rattle.alu.specs.Claims.{ByRow}
+use Rattle.alu.proofs.FloatRows.{eq-row, ne-row, gt-row, ge-row, lt-row, le-row}
 use Rattle.alu.proofs.Signs.{rank-is}
 use Rattle.alu.proofs.Signed.{signed-order}
 
@@ -34,40 +35,35 @@ above : (a b : ℕ) → b < a → between a b ≡ Above
 unfolding between
 above a b h = rw (le-ltb a b (omega arith), lt-ltb b a h)
 
--- the place of a word in the order of its kind
-place : Kind → ℕ → ℕ
-place Unsigned x = x
-place Signed x = rank x
-
-by-place : (kind : Kind) (x y : ℕ) → x < 2 ^ 32 → y < 2 ^ 32 → between (place kind x) (place kind y) ≡ order kind x y
-unfolding between place
-by-place Unsigned x y hx hy = refl
-by-place Signed x y hx hy =
+by-rank : (x y : ℕ) → x < 2 ^ 32 → y < 2 ^ 32 → between (rank x) (rank y) ≡ order Signed x y
+unfolding between
+by-rank x y hx hy =
     ap₂ (λ (s t : Bool). cond s Below (cond t Above Equal)) (signed-order x y hx hy .lt) (signed-order y x hy hx .lt)
 
--- ---- the code's order: that of the words with the bias added, and wrapped
+-- ---- the code's orders
 
-biased : (kind : Kind) (x : ℕ) → x < 2 ^ 32 → (x + biasOf kind) % 2 ^ 32 ≡ place kind x
-unfolding place
-biased Unsigned x h = omega arith
-biased Signed x h = rank-is x h
+pub is-below : (x y : ℕ) → x < y → Below ≡ order Unsigned x y
+unfolding between
+is-below x y h = sym (below x y h)
 
-module _ (kind : Kind) {x y k a b : ℕ} (hx : x < 2 ^ 32) (hy : y < 2 ^ 32)
-    (ek : k ≡ biasOf kind) (ea : a ≡ (x + k) % 2 ^ 32) (eb : b ≡ (y + k) % 2 ^ 32) where
-  key : (z : ℕ) → z < 2 ^ 32 → (z + k) % 2 ^ 32 ≡ place kind z
-  key z h = ap (λ (n : ℕ). (z + n) % 2 ^ 32) ek ∙ biased kind z h
+pub is-equal : (x y : ℕ) → x ≡ y → Equal ≡ order Unsigned x y
+unfolding between
+is-equal x y h = sym (equal x y h)
 
-  keys : between a b ≡ order kind x y
-  keys = ap₂ between (ea ∙ key x hx) (eb ∙ key y hy) ∙ by-place kind x y hx hy
+pub is-above : (x y : ℕ) → y < x → Above ≡ order Unsigned x y
+unfolding between
+is-above x y h = sym (above x y h)
 
-  pub is-below : a < b → Below ≡ order kind x y
-  is-below h = sym (below a b h) ∙ keys
+-- with its bias added, the order of words of a kind is the unsigned one
+pub unbiased : (x y : ℕ) → x < 2 ^ 32 → y < 2 ^ 32 → orderBiased (biasOf Unsigned) x y ≡ order Unsigned x y
+unbiased x y hx hy =
+    let a : (x + 0) % 2 ^ 32 ≡ x = omega arith in
+    let b : (y + 0) % 2 ^ 32 ≡ y = omega arith in
+    ap₂ (order Unsigned) a b
 
-  pub is-equal : a ≡ b → Equal ≡ order kind x y
-  is-equal h = sym (equal a b h) ∙ keys
-
-  pub is-above : b < a → Above ≡ order kind x y
-  is-above h = sym (above a b h) ∙ keys
+pub biased : (x y : ℕ) → x < 2 ^ 32 → y < 2 ^ 32 → orderBiased (biasOf Signed) x y ≡ order Signed x y
+unfolding between
+biased x y hx hy = ap₂ between (rank-is x hx) (rank-is y hy) ∙ by-rank x y hx hy
 
 -- ---- each compare answers by its row
 
@@ -106,19 +102,24 @@ module _ (kind : Kind) (a b : ℕ) where
   at-most : leb a b ≡ counts (row kind true true false) (between a b)
   at-most = three a b (leb a b) (row kind true true false) (λ h. le-leb a b (omega arith)) (λ h. le-leb a b (omega arith)) (lt-leb a b)
 
-placed : (r : CompareRow) (kind : Kind) (x y : ℕ) → x < 2 ^ 32 → y < 2 ^ 32 →
-    counts r (between (place kind x) (place kind y)) ≡ counts r (order kind x y)
-placed r kind x y hx hy = ap (counts r) (by-place kind x y hx hy)
+ranked : (r : CompareRow) (x y : ℕ) → x < 2 ^ 32 → y < 2 ^ 32 → counts r (between (rank x) (rank y)) ≡ counts r (order Signed x y)
+ranked r x y hx hy = ap (counts r) (by-rank x y hx hy)
 
 pub by-row : (op : CompareOp) → ByRow (rowOf op) op
-unfolding place
-by-row Eq x y hx hy = same Unsigned x y ∙ placed (rowOf Eq) Unsigned x y hx hy
-by-row Ne x y hx hy = other Unsigned x y ∙ placed (rowOf Ne) Unsigned x y hx hy
-by-row Gt x y hx hy = more Signed (rank x) (rank y) ∙ placed (rowOf Gt) Signed x y hx hy
-by-row Ge x y hx hy = at-least Signed (rank x) (rank y) ∙ placed (rowOf Ge) Signed x y hx hy
-by-row Lt x y hx hy = less Signed (rank x) (rank y) ∙ placed (rowOf Lt) Signed x y hx hy
-by-row Le x y hx hy = at-most Signed (rank x) (rank y) ∙ placed (rowOf Le) Signed x y hx hy
-by-row Ugt x y hx hy = more Unsigned x y ∙ placed (rowOf Ugt) Unsigned x y hx hy
-by-row Uge x y hx hy = at-least Unsigned x y ∙ placed (rowOf Uge) Unsigned x y hx hy
-by-row Ult x y hx hy = less Unsigned x y ∙ placed (rowOf Ult) Unsigned x y hx hy
-by-row Ule x y hx hy = at-most Unsigned x y ∙ placed (rowOf Ule) Unsigned x y hx hy
+unfolding between
+by-row Eq x y hx hy = same Unsigned x y
+by-row Ne x y hx hy = other Unsigned x y
+by-row Gt x y hx hy = more Signed (rank x) (rank y) ∙ ranked (rowOf Gt) x y hx hy
+by-row Ge x y hx hy = at-least Signed (rank x) (rank y) ∙ ranked (rowOf Ge) x y hx hy
+by-row Lt x y hx hy = less Signed (rank x) (rank y) ∙ ranked (rowOf Lt) x y hx hy
+by-row Le x y hx hy = at-most Signed (rank x) (rank y) ∙ ranked (rowOf Le) x y hx hy
+by-row Ugt x y hx hy = more Unsigned x y
+by-row Uge x y hx hy = at-least Unsigned x y
+by-row Ult x y hx hy = less Unsigned x y
+by-row Ule x y hx hy = at-most Unsigned x y
+by-row Feq x y hx hy = eq-row x y
+by-row Fne x y hx hy = ne-row x y
+by-row Fgt x y hx hy = gt-row x y
+by-row Fge x y hx hy = ge-row x y
+by-row Flt x y hx hy = lt-row x y
+by-row Fle x y hx hy = le-row x y

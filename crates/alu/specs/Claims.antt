@@ -2,10 +2,11 @@
 use Prim.Native.Nat.{ℕ, _<_, _≤_, _%_, _^_}
 use mathlib.Core.Bool.{Bool, true, false, not}
 use mathlib.Core.List.{List, [], _∷_}
-use mathlib.Core.Logic.{_↔_}
+use mathlib.Core.Logic.{_↔_, _⊎_}
 use mathlib.Core.Option.{some}
 use mathlib.Core.Path.{_≡_}
-use lib.IntN.{ℤ, _*ℤ_}
+use lib.Ieee.{Float as Real, nan, inf, fin}
+use lib.IntN.{ℤ, pos, negsuc, _*ℤ_}
 use lib.Signed.{ltZ, leZ, shrZ, _<ℤ_}
 use Rattle.isa.specs.declared.instruction.BinaryOp.the-variants.{Mulhi, Ashr}
 use Rattle.isa.specs.declared.instruction.UnaryOp.the-variants.{Clz, Ctz, Sext8, Sext16}
@@ -15,13 +16,15 @@ use Rattle.isa.specs.Table.{operationAt, tableR}
 use Rattle.isa.specs.declared.instruction.Operation.the-variants.{Compare}
 use Rattle.alu.specs.declared.rows.CompareRow.{CompareRow}
 use Rattle.alu.specs.declared.rows.Kind.{Kind}
-use Rattle.alu.specs.declared.rows.Kind.the-variants.{Unsigned, Signed}
-use Rattle.alu.specs.declared.rows.Ordering.the-variants.{Below, Equal, Above}
+use Rattle.alu.specs.declared.rows.Kind.the-variants.{Unsigned, Signed, Float}
+use Rattle.alu.specs.declared.rows.Ordering.the-variants.{Below, Equal, Above, Unordered}
 use Rattle.alu.specs.Word.{value}
 use Rattle.alu.specs.Binary.{binary, distance}
 use Rattle.alu.specs.Unary.{unary}
 use Rattle.alu.specs.Compare.{compare}
-use Rattle.alu.specs.Order.{ordering, row, answer}
+use Rattle.alu.specs.Order.{ordering, order, row, floatRow, answer}
+use Rattle.float.specs.Floats.{value as float}
+use Rattle.float.specs.Nearest.{Stands}
 
 -- "7 mulhi (signed)": the signed product, divided by 2^32 and rounded down
 abbrev pub MulhiIsSigned : Type 0
@@ -75,6 +78,27 @@ pub record ThreeWays (z w : ℤ) : Type 0 where
 abbrev pub OrdersNumbers : Type 0
 OrdersNumbers = (z w : ℤ) → ThreeWays z w
 
+-- floats (T-08): finite ones are in the order of the numbers z / d and w / d that they stand for, in which -0 and +0 are one; that each stands for
+-- one is `EveryFinite` of float
+abbrev pub OrdersFinite : Type 0
+OrdersFinite = (d x y : ℕ) (z w : ℤ) → 0 < d → Stands d x z → Stands d y w → order Float x y ≡ ordering z w
+
+-- an infinity is beyond all finite floats, and equal to itself
+abbrev pub side : Real → ℤ
+side nan = pos 0
+side (inf false) = pos 1
+side (inf true) = negsuc 0
+side (fin s m e) = pos 0
+
+abbrev pub OrdersInfinite : Type 0
+OrdersInfinite =
+    (x y : ℕ) (s : Bool) → (float x ≡ inf s) ⊎ (float y ≡ inf s) → (float x ≡ nan → ⊥) → (float y ≡ nan → ⊥)
+    → order Float x y ≡ ordering (side (float x)) (side (float y))
+
+-- and a NaN alone is unordered
+abbrev pub UnorderedExactly : Type 0
+UnorderedExactly = (x y : ℕ) → (order Float x y ≡ Unordered) ↔ ((float x ≡ nan) ⊎ (float y ≡ nan))
+
 -- "for all operands that each answers yes exactly by its row"
 abbrev pub ByRow : CompareRow → CompareOp → Type 0
 ByRow r op = (x y : ℕ) → x < 2 ^ 32 → y < 2 ^ 32 → compare op x y ≡ answer r x y
@@ -100,6 +124,10 @@ pub record TableRow : Type 0 where
 
 abbrev pub tableRow : ℕ → Kind → Bool → Bool → Bool → TableRow
 tableRow opcode kind below equal above = record { opcode = opcode; columns = row kind below equal above }
+
+-- the same of floats, and whether unordered counts
+abbrev pub floatTableRow : ℕ → Bool → Bool → Bool → Bool → TableRow
+floatTableRow opcode below equal above unordered = record { opcode = opcode; columns = floatRow below equal above unordered }
 
 abbrev pub Each : List TableRow → Type 0
 Each [] = Unit {0}
@@ -130,6 +158,16 @@ EachByRow = Each (
     tableRow 21 Unsigned false true true ∷
     tableRow 22 Unsigned true false false ∷
     tableRow 23 Unsigned true true false ∷ [])
+
+-- the float compares too (T-08): with `NoneWithNan` of float, the column of unordered is "With a NaN, ne is true and the others false."
+unfoldable pub EachFloatByRow : Type 0
+EachFloatByRow = Each (
+    floatTableRow 37 false true false false ∷
+    floatTableRow 38 true false true true ∷
+    floatTableRow 39 false false true false ∷
+    floatTableRow 40 false true true false ∷
+    floatTableRow 41 true false false false ∷
+    floatTableRow 42 true true false false ∷ [])
 
 -- "14 and 15, 16 and 19, 17 and 18, 20 and 23, 21 and 22 answer oppositely"
 unfoldable pub PairsOpposite : Type 0

@@ -61,7 +61,7 @@ pub extern "C" fn korvammel_write_word(instruction: &[u32; 6], word: &mut u32) -
     }
 }
 
-// Puts an instruction's name, and answers its length. No name is longer than eight bytes.
+// Puts an instruction's name, and answers its length. No instruction that has a word has a longer name than eight bytes.
 #[no_mangle]
 pub extern "C" fn korvammel_name(instruction: &[u32; 6], name: &mut [u8; 8]) -> usize
     ensures { λ r. ⌜ left r (now (name .exit)) ≡ nameCall (now (instruction .entry)) (now (name .entry)) ⌝ }

@@ -21,6 +21,11 @@ unfolding maskBelow
 maskBelow-lt zero f = omega arith
 maskBelow-lt (suc n) f = omega (arith, maskBelow-lt n f, at-most (f n) (2 ^ n), pow-suc 2 n)
 
+pub same-mask : (n : ℕ) (f g : ℕ → Bool) → ((j : ℕ) → f j ≡ g j) → maskBelow n f ≡ maskBelow n g
+unfolding maskBelow
+same-mask zero f g h = refl
+same-mask (suc n) f g h = ap₂ (λ (m : ℕ) (t : Bool). m + cond t (2 ^ n) 0) (same-mask n f g h) (h n)
+
 -- the lane's bit of an answer
 one-bit : (t : Bool) (j : ℕ) → j < 16 → bitAnd (flagsOf t) (1 * 2 ^ j % 2 ^ 32) ≡ cond t (2 ^ j) 0
 one-bit true j h =

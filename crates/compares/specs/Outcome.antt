@@ -1,25 +1,33 @@
--- A compare of lanes by its row: what its private functions give.
+-- A compare of lanes by its row, before the mask: what its private functions give.
 use Prim.Native.Nat.{ℕ, _-_, _^_}
-use mathlib.Core.Bool.{Bool, cond}
+use mathlib.Core.Bool.{Bool, true, false, cond}
 use mathlib.Core.List.{List}
 use Rattle.isa.specs.declared.instruction.CompareOp.{CompareOp}
 use Rattle.alu.specs.Compare.{compare}
-use Rattle.alu.specs.Order.{rowOf}
+use Rattle.alu.specs.Order.{biasOf}
+use Rattle.alu.specs.declared.rows.CompareRow.{CompareRow}
+use Rattle.alu.specs.declared.rows.Kind.{Kind}
+use Rattle.alu.specs.declared.rows.Kind.the-variants.{Unsigned, Signed, Float}
 use Rattle.vector.specs.Lanes.{lane}
 use Rattle.compares.specs.Lanes.{maskBelow}
 use Rattle.compares.specs.declared.outcome.Outcomes.{Outcomes}
+
+abbrev pub isFloat : Kind → Bool
+isFloat Unsigned = false
+isFloat Signed = false
+isFloat Float = true
 
 -- an answer in the bits of all lanes
 abbrev pub flagsOf : Bool → ℕ
 flagsOf answer = cond answer (2 ^ 16 - 1) 0
 
--- a compare's row, its columns in the bits of all lanes
-abbrev pub outcomesOf : CompareOp → Outcomes
-outcomesOf op = record {
-  kind = rowOf op .kind;
-  below = flagsOf (rowOf op .below);
-  equal = flagsOf (rowOf op .equal);
-  above = flagsOf (rowOf op .above);
+-- a row with the bias of its kind, its columns in the bits of all lanes
+abbrev pub outcomesOf : CompareRow → Outcomes
+outcomesOf row = record {
+  bias = biasOf (row .kind);
+  below = flagsOf (row .below);
+  equal = flagsOf (row .equal);
+  above = flagsOf (row .above);
 }
 
 -- the answers of all sixteen lanes

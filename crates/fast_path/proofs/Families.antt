@@ -1,17 +1,18 @@
 -- What a word of scalars alone does: one law a family.
-use Prim.Native.Nat.{ℕ, _%_, _^_}
-use mathlib.Core.Bool.{Bool, true, false, cond}
-use mathlib.Core.List.{List}
+use Prim.Native.Nat.{ℕ, _%_, _^_, _<_}
+use mathlib.Core.Bool.{Bool, true, false, cond, _&&_, false≢true}
+use mathlib.Core.List.{List, []}
 use mathlib.Core.Path.{_≡_, refl, sym, ap, _∙_}
 use native.Mathlib.Omega.{arith}
-use borrow.Author.Tests.{eq-eqb}
+use borrow.Author.Tests.{eq-eqb, lt-ltb}
 use Rattle.alu.specs.Binary.{binary}
 use Rattle.alu.specs.Compare.{compare}
 use Rattle.alu.specs.Unary.{unary}
 use Rattle.isa.proofs.Both.{and-both}
 use Rattle.word_layout.specs.Layout.{bits, signed}
 use Rattle.isa.specs.Number.{numberMovei}
-use Rattle.isa.specs.Rule.{flagsUnary, allowsR, allowsI, allowsJ, allowsM}
+use lib.Dec.{ltb}
+use Rattle.isa.specs.Rule.{flagsUnary, flagsClass, destination, allowsR, allowsI, allowsJ, allowsM}
 use Rattle.isa.specs.Test.{isIn}
 use Rattle.isa.specs.Table.{rowR, rowMovei, rowJ, rowM}
 use Rattle.execution.specs.Access.{access, loadInto, storeFrom}
@@ -42,6 +43,8 @@ use Rattle.fast_path.specs.Types.{
   Move,
   Sext8,
   Sext16,
+  IntToFloat,
+  FloatToInt,
   Compare,
   CompareOp,
   MoveiOp,
@@ -61,6 +64,16 @@ plain-flags Ctz = refl
 plain-flags Move = refl
 plain-flags Sext8 = refl
 plain-flags Sext16 = refl
+plain-flags IntToFloat = refl
+plain-flags FloatToInt = refl
+
+-- an operation whose opcode the five bits of I hold has the flags of its class
+listed-flags : (t : Bool) (xs : List ℕ) (free : Bool) → t ≡ true → (isIn 0 xs && free) ≡ true → (isIn 0 (cond t xs []) && free) ≡ true
+listed-flags true xs free e h = h
+listed-flags false xs free e h = absurd (false≢true e)
+
+has-I : (op : Operation) (d : ℕ) → rowR op .opcode < 2 ^ 5 → (isIn 0 (flagsClass op) && destination false d) ≡ true → allowsI op 0 d ≡ true
+has-I op d h e = listed-flags (ltb (rowR op .opcode) (2 ^ 5)) (flagsClass op) (destination false d) (lt-ltb (rowR op .opcode) (2 ^ 5) h) e
 
 module _ (t : ℕ) (regs : List ℕ) (w : ℕ) where
   abbrev pub operandA : ℕ
@@ -123,11 +136,13 @@ module _ (t : ℕ) (regs : List ℕ) (w : ℕ) where
 
   pub binary-I : (op : BinaryOp) → HasOpcode w 0x40 32 (rowR (Binary op) .opcode) → w % 8 ≡ 0 →
       ActsAnywhere t w regs (Write (binary op operandA immediate))
-  binary-I op h low = writes-binary op immediate (operates-I (Binary op) h low (free-register (bits w 23 18) (h .free)))
+  binary-I op h low =
+      writes-binary op immediate (operates-I (Binary op) h low (has-I (Binary op) (bits w 23 18) (h .listed) (free-register (bits w 23 18) (h .free))))
 
   pub compare-I : (op : CompareOp) → HasOpcode w 0x40 32 (rowR (Compare op) .opcode) → w % 8 ≡ 0 →
       ActsAnywhere t w regs (Write (cond (compare op operandA immediate) 1 0))
-  compare-I op h low = writes-compare op immediate (operates-I (Compare op) h low (free-register (bits w 23 18) (h .free)))
+  compare-I op h low =
+      writes-compare op immediate (operates-I (Compare op) h low (has-I (Compare op) (bits w 23 18) (h .listed) (free-register (bits w 23 18) (h .free))))
 
   pub moves : (op : MoveiOp) → HasOpcode w 0x60 8 (rowMovei op .opcode) → w % 4 ≡ 0 →
       ActsAnywhere t w regs (Write (replaced op (scalar regs t (bits w 23 18)) (numberMovei op (bits w 17 2))))

@@ -3,7 +3,7 @@ pub use Rattle.fast_path.specs.declared.action.Action.{Action}
 pub use Rattle.fast_path.specs.declared.action.Action.the-variants.{Write, Next, Jump, Defer}
 pub use Rattle.isa.specs.declared.instruction.BinaryOp.{BinaryOp}
 pub use Rattle.isa.specs.declared.instruction.UnaryOp.{UnaryOp}
-pub use Rattle.isa.specs.declared.instruction.UnaryOp.the-variants.{Clz, Ctz, Move, Sext8, Sext16}
+pub use Rattle.isa.specs.declared.instruction.UnaryOp.the-variants.{Clz, Ctz, Move, Sext8, Sext16, IntToFloat, FloatToInt}
 pub use Rattle.isa.specs.declared.instruction.CompareOp.{CompareOp}
 pub use Rattle.isa.specs.declared.instruction.Operation.{Operation}
 pub use Rattle.isa.specs.declared.instruction.Operation.the-variants.{Binary, Unary, Compare}

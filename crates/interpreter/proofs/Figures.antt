@@ -34,7 +34,31 @@ figures-hold = (
                   refl,
                   (
                     refl,
-                    (λ s0 s3 rest. refl, (λ s0 s3 rest. refl, (λ s0 s3 rest. refl, (λ s0 s3 rest. refl, (λ s0 s3 rest. refl, (λ s0 s3 rest. refl, (λ s0 s3 rest. refl, tt))))))),
+                    (
+                      refl,
+                      (
+                        refl,
+                        (
+                          refl,
+                          (
+                            refl,
+                            (
+                              λ s0 s3 rest. refl,
+                              (
+                                λ s0 s3 rest. refl,
+                                (
+                                  λ s0 s3 rest. refl,
+                                  (
+                                    λ s0 s3 rest. refl,
+                                    (λ s0 s3 rest. refl, (λ s0 s3 rest. refl, (λ s0 s3 rest. refl, tt))),
+                                  ),
+                                ),
+                              ),
+                            ),
+                          ),
+                        ),
+                      ),
+                    ),
                   ),
                 ),
               ),

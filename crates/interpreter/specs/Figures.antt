@@ -7,7 +7,7 @@ use Rattle.execution.specs.Effect.{context}
 use Rattle.execution.specs.Issue.{execute, executeWord}
 use Rattle.execution.specs.Registers.{scalar}
 use Rattle.isa.specs.Read.{read}
-use Rattle.interpreter.specs.Types.{Add, Mullo, Mulhi, Mulhu, Ashr, Clz, Lt, Ult, Binary, Unary, Compare, Whole, Load32, Load, Instruction, R, I, Movei, M}
+use Rattle.interpreter.specs.Types.{Add, Fadd, Mullo, Mulhi, Mulhu, Ashr, Clz, Lt, Ult, Binary, Unary, Compare, Whole, Load32, Load, Instruction, R, I, Movei, M}
 
 pub data Figure : Type 0 where
   -- a word, and what it is read as
@@ -35,8 +35,13 @@ figures =
     -- "0x00000000 and 0x04FC0000 undefined"
     reads 0x00000000 (refused undefined) ∷
     reads 0x04FC0000 (refused undefined) ∷
-    -- "0x21000000 not fitted"
-    reads 0x21000000 (refused not-fitted) ∷
+    -- "0x21000000 not fitted", which 02 (T-08) changed: "the word 0x21000000 becomes fadd .. 0x2D000000 takes its place as not fitted"
+    reads 0x21000000 (given (R (Binary Fadd) 0b000 0 0 0)) ∷
+    reads 0x2D000000 (refused not-fitted) ∷
+    -- 02 (T-08): "words of these opcodes off the layout give 7, not 8; l = 1 still gives 8"; 45 is not fitted "with any other bits"
+    reads 0x21000001 (refused undefined) ∷
+    reads 0x21000010 (refused not-fitted) ∷
+    reads 0x2D000001 (refused not-fitted) ∷
     -- "0xFFFFFFFF times itself: mullo 1, mulhi 0, mulhu 0xFFFFFFFE."
     gives (R (Binary Mullo) 0b000 3 1 2) 0xFFFFFFFF 0xFFFFFFFF 1 ∷
     gives (R (Binary Mulhi) 0b000 3 1 2) 0xFFFFFFFF 0xFFFFFFFF 0 ∷

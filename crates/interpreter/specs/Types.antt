@@ -9,7 +9,7 @@ pub use Rattle.interpreter.specs.declared.running.Stretch.{Stretch}
 pub use Rattle.machine.specs.declared.record.Machine.{Machine}
 pub use Rattle.machine.specs.declared.scheduler.Choice.{Choice}
 pub use Rattle.machine.specs.declared.scheduler.Choice.the-variants.{Chosen, NoneRunning}
-pub use Rattle.isa.specs.declared.instruction.BinaryOp.the-variants.{Add, Mullo, Mulhi, Mulhu, Ashr}
+pub use Rattle.isa.specs.declared.instruction.BinaryOp.the-variants.{Add, Fadd, Mullo, Mulhi, Mulhu, Ashr}
 pub use Rattle.isa.specs.declared.instruction.UnaryOp.the-variants.{Clz}
 pub use Rattle.isa.specs.declared.instruction.CompareOp.the-variants.{Lt, Ult}
 pub use Rattle.isa.specs.declared.instruction.Operation.the-variants.{Binary, Unary, Compare}

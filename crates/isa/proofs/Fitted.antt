@@ -175,4 +175,4 @@ not-fitted-exactly w = ((λ e. sym (of-word w) ∙ ap isEight e), (λ e. eight (
 pub rows-hold : RowsHold
 unfolding RowsHold read readR readI readMovei readJ readC readM asR asI asMovei asJ asC asM guarded listed find all signed
 rows-hold =
-    (refl, (refl, (refl, (refl, (refl, (refl, (refl, (refl, (refl, (refl, (refl, (refl, (refl, (refl, (refl, (refl, (refl, (refl, (refl, tt)))))))))))))))))))
+    (refl, (refl, (refl, (refl, (refl, (refl, (refl, (refl, (refl, (refl, (refl, (refl, (refl, (refl, (refl, (refl, (refl, (refl, (refl, (refl, (refl, (refl, (refl, (refl, (refl, (refl, (refl, (refl, (refl, (refl, (refl, (refl, (refl, (refl, (refl, (refl, (refl, (refl, (refl, (refl, tt))))))))))))))))))))))))))))))))))))))))

@@ -1,14 +1,15 @@
 -- A list of vector flags, and the set that the code looks them up in.
-use Prim.Native.Nat.{ℕ, zero, suc, _<_, _≤_}
-use mathlib.Core.Bool.{Bool, true, false, not, _&&_, _||_, false≢true}
+use Prim.Native.Nat.{ℕ, zero, suc, _<_, _≤_, _^_}
+use mathlib.Core.Bool.{Bool, true, false, cond, not, _&&_, _||_, false≢true}
 use mathlib.Core.List.{List, [], _∷_}
 use mathlib.Core.Path.{_≡_, refl, sym, subst}
 use native.Mathlib.Omega.{arith}
 use borrow.Author.Tests.{ltb-true, ltb-false, ne-eqb}
 use lib.Dec.{eqb, ltb}
-use Rattle.isa.specs.Rule.{flagsR, flagsI}
+use Rattle.isa.specs.Rule.{flagsR, flagsClass, flagsI}
+use Rattle.isa.specs.Table.{rowR}
 use Rattle.isa.specs.Test.{isInFrom, isIn, setOf, inSet}
-use Rattle.isa.specs.declared.instruction.UnaryOp.the-variants.{Clz, Ctz, Move, Sext8, Sext16}
+use Rattle.isa.specs.declared.instruction.UnaryOp.the-variants.{Clz, Ctz, Move, Sext8, Sext16, IntToFloat, FloatToInt}
 use Rattle.isa.specs.Types.{Operation, Binary, Unary, Compare, Shuffle, GetLane}
 use Rattle.isa.proofs.Both.{and-left, and-right}
 
@@ -75,13 +76,22 @@ r-agrees (Unary Ctz) = agree (flagsR (Unary Ctz)) refl refl
 r-agrees (Unary Move) = agree (flagsR (Unary Move)) refl refl
 r-agrees (Unary Sext8) = agree (flagsR (Unary Sext8)) refl refl
 r-agrees (Unary Sext16) = agree (flagsR (Unary Sext16)) refl refl
+r-agrees (Unary IntToFloat) = agree (flagsR (Unary IntToFloat)) refl refl
+r-agrees (Unary FloatToInt) = agree (flagsR (Unary FloatToInt)) refl refl
 r-agrees (Compare op) = agree (flagsR (Compare op)) refl refl
 r-agrees Shuffle = agree (flagsR Shuffle) refl refl
 r-agrees GetLane = agree (flagsR GetLane) refl refl
 
+class-agrees : (op : Operation) (f : ℕ) → Agree (flagsClass op) f
+class-agrees (Binary op) = agree (flagsClass (Binary op)) refl refl
+class-agrees (Unary op) = agree (flagsClass (Unary op)) refl refl
+class-agrees (Compare op) = agree (flagsClass (Compare op)) refl refl
+class-agrees Shuffle = agree (flagsClass Shuffle) refl refl
+class-agrees GetLane = agree (flagsClass GetLane) refl refl
+
+chosen : (t : Bool) (xs : List ℕ) (f : ℕ) → Agree xs f → Agree (cond t xs []) f
+chosen true xs f h = h
+chosen false xs f h = agree [] refl refl f
+
 pub i-agrees : (op : Operation) (f : ℕ) → Agree (flagsI op) f
-i-agrees (Binary op) = agree (flagsI (Binary op)) refl refl
-i-agrees (Unary op) = agree (flagsI (Unary op)) refl refl
-i-agrees (Compare op) = agree (flagsI (Compare op)) refl refl
-i-agrees Shuffle = agree (flagsI Shuffle) refl refl
-i-agrees GetLane = agree (flagsI GetLane) refl refl
+i-agrees op f = chosen (ltb (rowR op .opcode) (2 ^ 5)) (flagsClass op) f (class-agrees op f)

@@ -2,9 +2,9 @@
 use mathlib.Core.Option.{some}
 use mathlib.Core.Path.{_≡_, refl}
 use Rattle.isa.specs.Table.{Table, find, operationAt, tableR, tableMovei, tableJ, tableC, tableM}
-use Rattle.isa.specs.declared.instruction.BinaryOp.the-variants.{Or, And, Xor, Add, Sub, Mullo, Mulhi, Mulhu, Ashr, Shr, Shl}
-use Rattle.isa.specs.declared.instruction.UnaryOp.the-variants.{Clz, Ctz, Move, Sext8, Sext16}
-use Rattle.isa.specs.declared.instruction.CompareOp.the-variants.{Eq, Ne, Gt, Ge, Lt, Le, Ugt, Uge, Ult, Ule}
+use Rattle.isa.specs.declared.instruction.BinaryOp.the-variants.{Or, And, Xor, Add, Sub, Mullo, Mulhi, Mulhu, Ashr, Shr, Shl, Fadd, Fsub, Fmul, Fdiv}
+use Rattle.isa.specs.declared.instruction.UnaryOp.the-variants.{Clz, Ctz, Move, Sext8, Sext16, IntToFloat, FloatToInt}
+use Rattle.isa.specs.declared.instruction.CompareOp.the-variants.{Eq, Ne, Gt, Ge, Lt, Le, Ugt, Uge, Ult, Ule, Feq, Fne, Fgt, Fge, Flt, Fle}
 use Rattle.isa.specs.Types.{Binary, Unary, Compare, Shuffle, GetLane}
 use Rattle.isa.specs.Types.{Low, High, Whole, Jmp, Jmpsr, Jret, Beqz, Bnez, Barrier, Readcr, End, Load8, Load16, Load32, Load8u, Load16u, Store8, Store16, Store32, Load, Store, LoadVector, StoreVector}
 
@@ -24,11 +24,17 @@ finds-R (Binary Mulhu) = refl
 finds-R (Binary Ashr) = refl
 finds-R (Binary Shr) = refl
 finds-R (Binary Shl) = refl
+finds-R (Binary Fadd) = refl
+finds-R (Binary Fsub) = refl
+finds-R (Binary Fmul) = refl
+finds-R (Binary Fdiv) = refl
 finds-R (Unary Clz) = refl
 finds-R (Unary Ctz) = refl
 finds-R (Unary Move) = refl
 finds-R (Unary Sext8) = refl
 finds-R (Unary Sext16) = refl
+finds-R (Unary IntToFloat) = refl
+finds-R (Unary FloatToInt) = refl
 finds-R (Compare Eq) = refl
 finds-R (Compare Ne) = refl
 finds-R (Compare Gt) = refl
@@ -39,6 +45,12 @@ finds-R (Compare Ugt) = refl
 finds-R (Compare Uge) = refl
 finds-R (Compare Ult) = refl
 finds-R (Compare Ule) = refl
+finds-R (Compare Feq) = refl
+finds-R (Compare Fne) = refl
+finds-R (Compare Fgt) = refl
+finds-R (Compare Fge) = refl
+finds-R (Compare Flt) = refl
+finds-R (Compare Fle) = refl
 finds-R Shuffle = refl
 finds-R GetLane = refl
 

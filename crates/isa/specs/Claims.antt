@@ -8,8 +8,10 @@ use lib.Dec.{eqb, leb}
 use Rattle.answer.specs.Answer.{Answer, given, refused}
 use Rattle.word_layout.specs.Layout.{bits}
 use Rattle.isa.specs.Read.{read}
-use Rattle.isa.specs.declared.instruction.BinaryOp.the-variants.{Add}
-use Rattle.isa.specs.Types.{MoveiOp, Low, High, Whole, Instruction, R, I, Movei, J, C, M, Binary}
+use Rattle.isa.specs.declared.instruction.BinaryOp.the-variants.{Add, Fadd, Fsub, Fmul, Fdiv}
+use Rattle.isa.specs.declared.instruction.CompareOp.the-variants.{Fle}
+use Rattle.isa.specs.declared.instruction.UnaryOp.the-variants.{IntToFloat, FloatToInt}
+use Rattle.isa.specs.Types.{MoveiOp, Low, High, Whole, Instruction, R, I, Movei, J, C, M, Binary, Unary, Compare}
 use Rattle.isa.specs.Write.{write}
 
 -- "Words read into instructions and instructions written into words follow the same tables, with no other word accepted."
@@ -45,13 +47,14 @@ InRange = (w : ℕ) (i : Instruction) → read w ≡ given i → Ranged i
 abbrev pub between : ℕ → ℕ → ℕ → Bool
 between low high n = leb low n && leb n high
 
--- the opcodes that the lines of R name: 1-11, 12 and 13, 14-23, 24, 25, 32, 43, 44
+-- the opcodes that the lines of R name: 1-11, 12 and 13, 14-23, 24, 25, 32, 43, 44; and 02 (T-08): 33 to 36, 37 to 42, 48, 49
 abbrev pub namedR : ℕ → Bool
-namedR o = between 1 25 o || eqb o 32 || eqb o 43 || eqb o 44
+namedR o = between 1 25 o || between 32 44 o || eqb o 48 || eqb o 49
 
--- "Not fitted: opcodes 33-42, 45, 48, 49 with any other bits; any opcode above with l = 1, other bits any."
+-- "Not fitted: opcodes .. 45 .. with any other bits; any opcode above with l = 1, other bits any.", and of 33 to 42, 48 and 49 in 02 (T-08): "words
+-- of these opcodes off the layout give 7, not 8; l = 1 still gives 8"
 abbrev pub notFittedR : ℕ → ℕ → Bool
-notFittedR opcode l = (between 33 42 opcode || eqb opcode 45 || eqb opcode 48 || eqb opcode 49) || (namedR opcode && eqb l 1)
+notFittedR opcode l = eqb opcode 45 || (namedR opcode && eqb l 1)
 
 -- "0 load8, 1 load16 .., 2 load32, 4 load8u, 5 load16u, 8 loadv, 32 store8, 33 store16, 34 store32, 40 storev."
 abbrev pub namedM : ℕ → Bool
@@ -85,8 +88,21 @@ rows =
     row 0x04000010 (refused 8) ∷ row 0x2B000010 (refused 8) ∷ row 0x04FC0031 (refused 8) ∷
     -- opcodes 26, 0 and 46, which no line names, with l = 1
     row 0x1A000010 (refused 7) ∷ row 0x00000010 (refused 7) ∷ row 0x2E000010 (refused 7) ∷
-    -- opcodes 42, 45 and 49, with other bits
-    row 0x2A000000 (refused 8) ∷ row 0x2DFFFFFF (refused 8) ∷ row 0x31000001 (refused 8) ∷
+    -- 02 (T-08): "the word 0x21000000 becomes fadd .. 0x2D000000 takes its place as not fitted", that with other bits too
+    row 0x21000000 (given (R (Binary Fadd) 0b000 0 0 0)) ∷ row 0x2D000000 (refused 8) ∷ row 0x2D000001 (refused 8) ∷ row 0x2DFFFFFF (refused 8) ∷
+    -- fsub, fmul, fdiv
+    row 0x22000000 (given (R (Binary Fsub) 0b000 0 0 0)) ∷ row 0x23000000 (given (R (Binary Fmul) 0b000 0 0 0)) ∷
+    row 0x24000000 (given (R (Binary Fdiv) 0b000 0 0 0)) ∷
+    -- fadd with bit 0, and with l = 1; cmpfle of scalars
+    row 0x21000001 (refused 7) ∷ row 0x21000010 (refused 8) ∷ row 0x2A000000 (given (R (Compare Fle) 0b000 0 0 0)) ∷
+    -- i32tof32 of scalars and of lanes; with bit 0, with b field 1, with flags 100, which move alone has, with all flags, and with l = 1
+    row 0x30000000 (given (R (Unary IntToFloat) 0b000 0 0 0)) ∷ row 0x3000000C (given (R (Unary IntToFloat) 0b110 0 0 0)) ∷
+    row 0x30000001 (refused 7) ∷ row 0x30000040 (refused 7) ∷ row 0x30000008 (refused 7) ∷ row 0x3000000E (refused 7) ∷
+    row 0x30000010 (refused 8) ∷
+    -- f32toi32 likewise
+    row 0x31000000 (given (R (Unary FloatToInt) 0b000 0 0 0)) ∷ row 0x3100000C (given (R (Unary FloatToInt) 0b110 0 0 0)) ∷
+    row 0x31000001 (refused 7) ∷ row 0x31000040 (refused 7) ∷ row 0x31000008 (refused 7) ∷ row 0x3100000E (refused 7) ∷
+    row 0x31000010 (refused 8) ∷
     -- addi with bit 4 set: part of its immediate
     row 0x44000010 (given (I (Binary Add) 0b00 0 0 2)) ∷
     -- moveil, moveih and movei with the highest bit of the immediate set, and movei with all of it

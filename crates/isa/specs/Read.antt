@@ -61,7 +61,7 @@ asM w op =
     (M op (field w firstRegister) (field w secondRegister) (signedField w offsetM)))
     (refused not-fitted)
 
--- "Not fitted: opcodes 33-42, 45, 48, 49 with any other bits"
+-- "Not fitted: opcodes .. with any other bits"
 unfoldable pub readR : ℕ → Answer Instruction
 readR w = listed (operationAt tableR (field w opcodeR)) (asR w) (cond (isIn (field w opcodeR) not-fitted-opcodes) not-fitted undefined)
 

@@ -1,19 +1,22 @@
 -- Which vector flags and registers the words of an operation may have (document 01, "The words").
-use Prim.Native.Nat.{ℕ}
-use mathlib.Core.Bool.{Bool, true, false, _&&_, _||_, not}
+use Prim.Native.Nat.{ℕ, _^_}
+use mathlib.Core.Bool.{Bool, true, false, cond, _&&_, _||_, not}
 use mathlib.Core.List.{List, [], _∷_}
-use lib.Dec.{eqb, leb}
+use lib.Dec.{eqb, leb, ltb}
+use Rattle.isa.specs.Table.{rowR}
 use Rattle.isa.specs.Test.{isIn}
-use Rattle.isa.specs.declared.instruction.UnaryOp.the-variants.{Clz, Ctz, Move, Sext8, Sext16}
+use Rattle.isa.specs.declared.instruction.UnaryOp.the-variants.{Clz, Ctz, Move, Sext8, Sext16, IntToFloat, FloatToInt}
 use Rattle.isa.specs.Types.{UnaryOp, Operation, Binary, Unary, Compare, Shuffle, GetLane, JumpOp, Jmp, Jmpsr, Jret, Beqz, Bnez, ControlOp, Barrier, Readcr, End, MemoryOp, Load, Store, LoadVector, StoreVector}
 
--- "Flags 000, 110; move also 100."
+-- "Flags 000, 110; move also 100." Of the float unit: "b field and flags as for integer add, compare and clz".
 abbrev pub flagsUnary : UnaryOp → List ℕ
 flagsUnary Clz = 0b000 ∷ 0b110 ∷ []
 flagsUnary Ctz = 0b000 ∷ 0b110 ∷ []
 flagsUnary Move = 0b000 ∷ 0b110 ∷ 0b100 ∷ []
 flagsUnary Sext8 = 0b000 ∷ 0b110 ∷ []
 flagsUnary Sext16 = 0b000 ∷ 0b110 ∷ []
+flagsUnary IntToFloat = 0b000 ∷ 0b110 ∷ []
+flagsUnary FloatToInt = 0b000 ∷ 0b110 ∷ []
 
 -- R: the vector flags of d, a and b
 abbrev pub flagsR : Operation → List ℕ
@@ -24,12 +27,16 @@ flagsR Shuffle = 0b111 ∷ []
 flagsR GetLane = 0b010 ∷ []
 
 -- I: the vector flags of d and a. "Opcodes 1-11 (flags 00, 11), 14-23 (00, 01), 25 (01)"
+abbrev pub flagsClass : Operation → List ℕ
+flagsClass (Binary op) = 0b00 ∷ 0b11 ∷ []
+flagsClass (Unary op) = []
+flagsClass (Compare op) = 0b00 ∷ 0b01 ∷ []
+flagsClass Shuffle = []
+flagsClass GetLane = 0b01 ∷ []
+
+-- I has five bits for the opcode: the float operations, from 33 on, have no I form
 abbrev pub flagsI : Operation → List ℕ
-flagsI (Binary op) = 0b00 ∷ 0b11 ∷ []
-flagsI (Unary op) = []
-flagsI (Compare op) = 0b00 ∷ 0b01 ∷ []
-flagsI Shuffle = []
-flagsI GetLane = 0b01 ∷ []
+flagsI op = cond (ltb (rowR op .opcode) (2 ^ 5)) (flagsClass op) []
 
 -- "s63 the program counter": named here too, since this crate does not see `machine`, where the register file is
 abbrev pub programCounterRegister : ℕ
@@ -39,7 +46,7 @@ programCounterRegister = 63
 abbrev pub destination : Bool → ℕ → Bool
 destination vector d = vector || not (eqb d programCounterRegister)
 
--- "12 clz, 13 ctz .., 32 move, 43 sext8, 44 sext16: b field 0."
+-- "12 clz, 13 ctz .., 32 move, 43 sext8, 44 sext16: b field 0.", and so 48 and 49, "as for .. clz"
 abbrev pub operandB : Operation → ℕ → Bool
 operandB (Binary op) b = true
 operandB (Unary op) b = eqb b 0

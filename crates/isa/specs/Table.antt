@@ -6,9 +6,9 @@ use mathlib.Core.Option.{Option, none, some}
 use Prim.Native.String.{String}
 use lib.Dec.{eqb}
 use Rattle.isa.specs.Text.{bytes}
-use Rattle.isa.specs.declared.instruction.BinaryOp.the-variants.{Or, And, Xor, Add, Sub, Mullo, Mulhi, Mulhu, Ashr, Shr, Shl}
-use Rattle.isa.specs.declared.instruction.UnaryOp.the-variants.{Clz, Ctz, Move, Sext8, Sext16}
-use Rattle.isa.specs.declared.instruction.CompareOp.the-variants.{Eq, Ne, Gt, Ge, Lt, Le, Ugt, Uge, Ult, Ule}
+use Rattle.isa.specs.declared.instruction.BinaryOp.the-variants.{Or, And, Xor, Add, Sub, Mullo, Mulhi, Mulhu, Ashr, Shr, Shl, Fadd, Fsub, Fmul, Fdiv}
+use Rattle.isa.specs.declared.instruction.UnaryOp.the-variants.{Clz, Ctz, Move, Sext8, Sext16, IntToFloat, FloatToInt}
+use Rattle.isa.specs.declared.instruction.CompareOp.the-variants.{Eq, Ne, Gt, Ge, Lt, Le, Ugt, Uge, Ult, Ule, Feq, Fne, Fgt, Fge, Flt, Fle}
 use Rattle.isa.specs.Types.{Operation, Binary, Unary, Compare, Shuffle, GetLane}
 use Rattle.isa.specs.Types.{MoveiOp, Low, High, Whole, JumpOp, Jmp, Jmpsr, Jret, Beqz, Bnez, ControlOp, Barrier, Readcr, End, Load8, Load16, Load32, Load8u, Load16u, Store8, Store16, Store32, MemoryOp, Load, Store, LoadVector, StoreVector}
 use Rattle.isa.specs.Types.{Instruction, R, I, Movei, J, C, M}
@@ -29,7 +29,8 @@ pub record Table (A : Type 0) : Type 0 where
 -- Behind each row its meaning, in registers: `:=` gives the register on its left the value on its right, from what the registers held before. With
 -- vector flags an operation of R, I or MOVEI is done in each lane that is on. The definitions of the meanings: alu, vector, compares, memory, execution.
 
--- "R"; a compare of vectors is a bit a lane, in the scalar d
+-- "R", and 02 (T-08): "Fit R opcodes 33 to 36 (fadd, fsub, fmul, fdiv), compares 37 to 42 (cmpfeq, cmpfne, cmpfgt, cmpfge, cmpflt, cmpfle),
+-- 48 i32tof32 and 49 f32toi32"; a compare of vectors is a bit a lane, in the scalar d
 abbrev pub rowR : Operation → OpcodeRow
 rowR (Binary Or) = row 1 "or"  -- d := a | b
 rowR (Binary And) = row 2 "and"  -- d := a & b
@@ -57,8 +58,20 @@ rowR (Compare Ule) = row 23 "cmpule"  -- d := 1 if a ≤ b, unsigned, else 0
 rowR Shuffle = row 24 "shuffle"  -- d[j] := a[b[j] mod 16], each lane j
 rowR GetLane = row 25 "getlane"  -- d := a[b mod 16], a lane
 rowR (Unary Move) = row 32 "move"  -- d := a
+rowR (Binary Fadd) = row 33 "fadd"  -- d := a + b, floats
+rowR (Binary Fsub) = row 34 "fsub"  -- d := a - b, floats
+rowR (Binary Fmul) = row 35 "fmul"  -- d := a * b, floats
+rowR (Binary Fdiv) = row 36 "fdiv"  -- d := a / b, floats
+rowR (Compare Feq) = row 37 "cmpfeq"  -- d := 1 if a = b, floats, else 0
+rowR (Compare Fne) = row 38 "cmpfne"  -- d := 1 if a ≠ b, floats, else 0
+rowR (Compare Fgt) = row 39 "cmpfgt"  -- d := 1 if a > b, floats, else 0
+rowR (Compare Fge) = row 40 "cmpfge"  -- d := 1 if a ≥ b, floats, else 0
+rowR (Compare Flt) = row 41 "cmpflt"  -- d := 1 if a < b, floats, else 0
+rowR (Compare Fle) = row 42 "cmpfle"  -- d := 1 if a ≤ b, floats, else 0
 rowR (Unary Sext8) = row 43 "sext8"  -- d := the low 8 bits of a, signed
 rowR (Unary Sext16) = row 44 "sext16"  -- d := the low 16 bits of a, signed
+rowR (Unary IntToFloat) = row 48 "i32tof32"  -- d := the float nearest to a, signed
+rowR (Unary FloatToInt) = row 49 "f32toi32"  -- d := the whole part of the float a, signed
 
 abbrev pub tableR : Table Operation
 tableR = record {
@@ -67,12 +80,15 @@ tableR = record {
       Binary Or ∷ Binary And ∷ Binary Xor ∷ Binary Add ∷ Binary Sub ∷ Binary Mullo ∷ Binary Mulhi ∷ Binary Mulhu ∷ Binary Ashr ∷ Binary Shr ∷ Binary Shl ∷
       Unary Clz ∷ Unary Ctz ∷
       Compare Eq ∷ Compare Ne ∷ Compare Gt ∷ Compare Ge ∷ Compare Lt ∷ Compare Le ∷ Compare Ugt ∷ Compare Uge ∷ Compare Ult ∷ Compare Ule ∷
-      Shuffle ∷ GetLane ∷ Unary Move ∷ Unary Sext8 ∷ Unary Sext16 ∷ [];
+      Shuffle ∷ GetLane ∷ Unary Move ∷
+      Binary Fadd ∷ Binary Fsub ∷ Binary Fmul ∷ Binary Fdiv ∷
+      Compare Feq ∷ Compare Fne ∷ Compare Fgt ∷ Compare Fge ∷ Compare Flt ∷ Compare Fle ∷
+      Unary Sext8 ∷ Unary Sext16 ∷ Unary IntToFloat ∷ Unary FloatToInt ∷ [];
 }
 
--- "Not fitted: opcodes 33-42, 45, 48, 49 with any other bits"
+-- "Not fitted: opcodes .. 45 .. with any other bits": the others of that line are fitted since 02 (T-08)
 abbrev pub not-fitted-opcodes : List ℕ
-not-fitted-opcodes = 33 ∷ 34 ∷ 35 ∷ 36 ∷ 37 ∷ 38 ∷ 39 ∷ 40 ∷ 41 ∷ 42 ∷ 45 ∷ 48 ∷ 49 ∷ []
+not-fitted-opcodes = 45 ∷ []
 
 -- "I: .. Opcodes 1-11 .., 14-23 .., 25 .., as R with the immediate as b. Names end in i." Its opcodes are those of R; which of them have an I word, their
 -- flags say.

@@ -1,6 +1,6 @@
 // Operations and instructions, by the format of their words.
 
-// R, and I with an immediate for b: two operands.
+// R, and I with an immediate for b: two operands. Those of the float unit, here and below, have no I form.
 pub enum BinaryOp {
     Or,
     And,
@@ -13,6 +13,10 @@ pub enum BinaryOp {
     Ashr,
     Shr,
     Shl,
+    Fadd,
+    Fsub,
+    Fmul,
+    Fdiv,
 }
 
 // R: one operand.
@@ -22,6 +26,8 @@ pub enum UnaryOp {
     Move,
     Sext8,
     Sext16,
+    IntToFloat,
+    FloatToInt,
 }
 
 // R and I: a test of two operands.
@@ -36,6 +42,12 @@ pub enum CompareOp {
     Uge,
     Ult,
     Ule,
+    Feq,
+    Fne,
+    Fgt,
+    Fge,
+    Flt,
+    Fle,
 }
 
 // The operations of R, and of I: the class, and within it which one.

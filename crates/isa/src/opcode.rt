@@ -72,29 +72,29 @@ pub fn of_r(opcode: u8) -> ROpcode
         24 => ROpcode::Listed(Operation::Shuffle),
         25 => ROpcode::Listed(Operation::GetLane),
         32 => ROpcode::Listed(Operation::Unary(UnaryOp::Move)),
+        33 => ROpcode::Listed(Operation::Binary(BinaryOp::Fadd)),
+        34 => ROpcode::Listed(Operation::Binary(BinaryOp::Fsub)),
+        35 => ROpcode::Listed(Operation::Binary(BinaryOp::Fmul)),
+        36 => ROpcode::Listed(Operation::Binary(BinaryOp::Fdiv)),
+        37 => ROpcode::Listed(Operation::Compare(CompareOp::Feq)),
+        38 => ROpcode::Listed(Operation::Compare(CompareOp::Fne)),
+        39 => ROpcode::Listed(Operation::Compare(CompareOp::Fgt)),
+        40 => ROpcode::Listed(Operation::Compare(CompareOp::Fge)),
+        41 => ROpcode::Listed(Operation::Compare(CompareOp::Flt)),
+        42 => ROpcode::Listed(Operation::Compare(CompareOp::Fle)),
         43 => ROpcode::Listed(Operation::Unary(UnaryOp::Sext8)),
         44 => ROpcode::Listed(Operation::Unary(UnaryOp::Sext16)),
+        48 => ROpcode::Listed(Operation::Unary(UnaryOp::IntToFloat)),
+        49 => ROpcode::Listed(Operation::Unary(UnaryOp::FloatToInt)),
         _ => ROpcode::NotListed,
     }
 }
 
-// Whether an R opcode is one of those that this core does not fit.
+// Whether an R opcode is one that this core does not fit.
 pub fn unfitted(opcode: u8) -> bool
     ensures { λ r. ⌜ r ≡ isIn opcode not-fitted-opcodes ⌝ }
 {
-    (opcode == 33)
-        | (opcode == 34)
-        | (opcode == 35)
-        | (opcode == 36)
-        | (opcode == 37)
-        | (opcode == 38)
-        | (opcode == 39)
-        | (opcode == 40)
-        | (opcode == 41)
-        | (opcode == 42)
-        | (opcode == 45)
-        | (opcode == 48)
-        | (opcode == 49)
+    opcode == 45
 }
 
 pub fn of_movei(opcode: u8) -> MoveiOpcode
@@ -178,6 +178,10 @@ fn binary_opcode(op: BinaryOp) -> u8
         BinaryOp::Ashr => 9,
         BinaryOp::Shr => 10,
         BinaryOp::Shl => 11,
+        BinaryOp::Fadd => 33,
+        BinaryOp::Fsub => 34,
+        BinaryOp::Fmul => 35,
+        BinaryOp::Fdiv => 36,
     }
 }
 
@@ -190,6 +194,8 @@ fn unary_opcode(op: UnaryOp) -> u8
         UnaryOp::Move => 32,
         UnaryOp::Sext8 => 43,
         UnaryOp::Sext16 => 44,
+        UnaryOp::IntToFloat => 48,
+        UnaryOp::FloatToInt => 49,
     }
 }
 
@@ -207,6 +213,12 @@ fn compare_opcode(op: CompareOp) -> u8
         CompareOp::Uge => 21,
         CompareOp::Ult => 22,
         CompareOp::Ule => 23,
+        CompareOp::Feq => 37,
+        CompareOp::Fne => 38,
+        CompareOp::Fgt => 39,
+        CompareOp::Fge => 40,
+        CompareOp::Flt => 41,
+        CompareOp::Fle => 42,
     }
 }
 

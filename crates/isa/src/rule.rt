@@ -4,8 +4,9 @@ use crate::instruction::JumpOp;
 use crate::instruction::MemoryOp;
 use crate::instruction::Operation;
 use crate::instruction::UnaryOp;
+use crate::opcode::r_opcode;
 ghost use mathlib.Core.Path.{_≡_};
-ghost use Rattle.isa.specs.Rule.{flagsUnary, flagsR, flagsI, destination, operandB, allowsR, allowsI, allowsMovei, allowsJ, allowsC, allowsM};
+ghost use Rattle.isa.specs.Rule.{flagsUnary, flagsR, flagsClass, flagsI, destination, operandB, allowsR, allowsI, allowsMovei, allowsJ, allowsC, allowsM};
 ghost use Rattle.isa.specs.Test.{setOf, inSet};
 
 // The vector flags that a word of an operation may have, as a set: bit f for flags f. So the compiler looks them up, and does not jump.
@@ -18,6 +19,8 @@ fn unary_set(op: UnaryOp) -> u32
         UnaryOp::Move => 0b01010001,
         UnaryOp::Sext8 => 0b01000001,
         UnaryOp::Sext16 => 0b01000001,
+        UnaryOp::IntToFloat => 0b01000001,
+        UnaryOp::FloatToInt => 0b01000001,
     }
 }
 
@@ -33,8 +36,8 @@ fn r_set(op: Operation) -> u32
     }
 }
 
-fn i_set(op: Operation) -> u32
-    ensures { λ r. ⌜ r ≡ setOf (flagsI op) ⌝ }
+fn class_set(op: Operation) -> u32
+    ensures { λ r. ⌜ r ≡ setOf (flagsClass op) ⌝ }
 {
     match op {
         Operation::Binary(_) => 0b1001,
@@ -43,6 +46,15 @@ fn i_set(op: Operation) -> u32
         Operation::Shuffle => 0,
         Operation::GetLane => 0b0010,
     }
+}
+
+fn i_set(op: Operation) -> u32
+    ensures { λ r. ⌜ r ≡ setOf (flagsI op) ⌝ }
+{
+    if r_opcode(op) < 32 {
+        return class_set(op);
+    }
+    0
 }
 
 fn is_in(set: u32, flags: u32) -> bool

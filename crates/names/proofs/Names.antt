@@ -1,6 +1,6 @@
--- Names: an operation's name stands in the table's row of its opcode, no name is longer than eight bytes, and one of R has a letter's room.
-use Prim.Native.Nat.{ℕ, suc, _+_, _-_, _<_, _≤_}
-use mathlib.Core.Bool.{Bool, true, false, _&&_}
+-- Names: an operation's name stands in the table's row of its opcode, and no instruction that has a word has a name of more than eight bytes.
+use Prim.Native.Nat.{ℕ, suc, _+_, _-_, _^_, _<_, _≤_}
+use mathlib.Core.Bool.{Bool, true, false, cond, not, _&&_, _||_, false≢true}
 use mathlib.Core.List.{List, [], _∷_, _++_, append-assoc}
 use mathlib.Core.Option.{some}
 use mathlib.Core.Path.{_≡_, refl, ap, subst, _∙_}
@@ -9,7 +9,11 @@ use borrow.Author.Tests.{eq-eqb, ltb-true}
 use lib.Dec.{eqb, ltb}
 use lib.ListN.{length, replicate, set, getD, drop, length-append}
 use lib.Seq.{set-append-seam, drop-cons}
-use Rattle.isa.proofs.Both.{and-left, and-right}
+use Rattle.answer.specs.Answer.{given}
+use Rattle.isa.proofs.Both.{and-left, and-right, each}
+use Rattle.isa.specs.Rule.{flagsClass}
+use Rattle.isa.specs.Test.{isIn}
+use Rattle.isa.specs.Write.{written, write, writeI}
 use Rattle.isa.proofs.Tables.{Finds, finds-R, finds-Movei, finds-J, finds-C, finds-M}
 use Rattle.isa.specs.Table.{OpcodeRow, Table, find, tableR, tableMovei, tableJ, tableC, tableM, rowR, rowMovei, rowJ, rowC, rowM}
 use Rattle.isa.specs.Text.{bytes}
@@ -111,19 +115,53 @@ module _ {A : Type 0} (t : Table A) (finds : Finds t) (n : ℕ) where
   below : (op : A) → every (λ op. ltb (length (t .rowOf op .name)) n) (t .operations) ≡ true → length (t .rowOf op .name) < n
   below op e = ltb-true _ _ (passes (λ op. ltb (length (t .rowOf op .name)) n) (t .rowOf) (t .operations) _ op e (finds op))
 
--- no name of R is longer than seven bytes, and no other than eight
-pub short : (op : Operation) → length (rowR op .name) < 8
+-- no name is longer than eight bytes, but for a letter more of I
+pub short : (op : Operation) → length (rowR op .name) ≤ 8
 unfolding every bytes
-short op = below tableR finds-R 8 op refl
+short op = let h = below tableR finds-R 9 op refl in omega arith
 
-pub fits : (i : Instruction) → length (nameOf i) ≤ 8
+pub fits : (i : Instruction) → length (nameOf i) ≤ 9
 unfolding every bytes
 fits (R op flags d a b) = let h = short op in omega arith
 fits (I op flags d a immediate) = let h = short op in rw (length-append (rowR op .name) (105 ∷ [])) (omega arith)
-fits (Movei op flag d immediate) = let h = below tableMovei finds-Movei 9 op refl in omega arith
-fits (J op register offset) = let h = below tableJ finds-J 9 op refl in omega arith
-fits (C op first second) = let h = below tableC finds-C 9 op refl in omega arith
-fits (M op register base offset) = let h = below tableM finds-M 9 op refl in omega arith
+fits (Movei op flag d immediate) = let h = below tableMovei finds-Movei 10 op refl in omega arith
+fits (J op register offset) = let h = below tableJ finds-J 10 op refl in omega arith
+fits (C op first second) = let h = below tableC finds-C 10 op refl in omega arith
+fits (M op register base offset) = let h = below tableM finds-M 10 op refl in omega arith
+
+-- of an operation with a word of I the name has at most seven: no instruction that has a word has a longer name than eight bytes
+spare : Operation → Bool
+spare op = not (ltb (rowR op .opcode) (2 ^ 5)) || ltb (length (rowR op .name)) 8
+
+shorter : (op : Operation) → ltb (rowR op .opcode) (2 ^ 5) ≡ true → length (rowR op .name) < 8
+unfolding every bytes spare
+shorter op e = ltb-true _ _ (go (ltb (rowR op .opcode) (2 ^ 5)) e (passes spare rowR (tableR .operations) _ op refl (finds-R op)))
+  where
+    go : (t : Bool) → t ≡ true → (not t || ltb (length (rowR op .name)) 8) ≡ true → ltb (length (rowR op .name)) 8 ≡ true
+    go true f g = g
+    go false f g = absurd (false≢true f)
+
+has-flags : (t : Bool) (xs : List ℕ) (f : ℕ) → isIn f (cond t xs []) ≡ true → t ≡ true
+has-flags true xs f e = refl
+has-flags false xs f e = absurd (false≢true e)
+
+is-written : (t : Bool) (v w : ℕ) → written t v ≡ given w → t ≡ true
+unfolding written
+is-written true v w e = refl
+is-written false v w e = let z : _≡_ {A = ℕ} 0 1 = cc in absurd (omega arith)
+
+pub fits-word : (i : Instruction) (w : ℕ) → write i ≡ given w → length (nameOf i) ≤ 8
+unfolding every bytes write writeI
+fits-word (R op flags d a b) w e = short op
+fits-word (I op flags d a immediate) w e =
+    let tests = each (_ ∷ _) (is-written _ _ w e) in
+    let o = has-flags (ltb (rowR op .opcode) (2 ^ 5)) (flagsClass op) flags (and-left _ _ (and-left _ _ (tests .0))) in
+    let h = shorter op o in
+    rw (length-append (rowR op .name) (105 ∷ [])) (omega arith)
+fits-word (Movei op flag d immediate) w e = let h = below tableMovei finds-Movei 9 op refl in omega arith
+fits-word (J op register offset) w e = let h = below tableJ finds-J 9 op refl in omega arith
+fits-word (C op first second) w e = let h = below tableC finds-C 9 op refl in omega arith
+fits-word (M op register base offset) w e = let h = below tableM finds-M 9 op refl in omega arith
 
 -- a byte put right behind a padded text makes it longer
 pub one-more : (n : ℕ) (t : List ℕ) (b : ℕ) → length t < n → set (padded n t) (length t) b ≡ padded n (t ++ b ∷ [])

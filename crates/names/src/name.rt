@@ -14,7 +14,7 @@ pub struct Name {
 // A row of the table: the number of the format, the opcode, and the name's length and bytes.
 struct NameRow(u8, u8, usize, [u8; 16]);
 
-const COUNT: usize = 49;
+const COUNT: usize = 61;
 
 const ROWS: [NameRow; COUNT] = [
     // R, and I with a letter more
@@ -44,8 +44,20 @@ const ROWS: [NameRow; COUNT] = [
     NameRow(0, 24, 7, *b"shuffle\0\0\0\0\0\0\0\0\0"),
     NameRow(0, 25, 7, *b"getlane\0\0\0\0\0\0\0\0\0"),
     NameRow(0, 32, 4, *b"move\0\0\0\0\0\0\0\0\0\0\0\0"),
+    NameRow(0, 33, 4, *b"fadd\0\0\0\0\0\0\0\0\0\0\0\0"),
+    NameRow(0, 34, 4, *b"fsub\0\0\0\0\0\0\0\0\0\0\0\0"),
+    NameRow(0, 35, 4, *b"fmul\0\0\0\0\0\0\0\0\0\0\0\0"),
+    NameRow(0, 36, 4, *b"fdiv\0\0\0\0\0\0\0\0\0\0\0\0"),
+    NameRow(0, 37, 6, *b"cmpfeq\0\0\0\0\0\0\0\0\0\0"),
+    NameRow(0, 38, 6, *b"cmpfne\0\0\0\0\0\0\0\0\0\0"),
+    NameRow(0, 39, 6, *b"cmpfgt\0\0\0\0\0\0\0\0\0\0"),
+    NameRow(0, 40, 6, *b"cmpfge\0\0\0\0\0\0\0\0\0\0"),
+    NameRow(0, 41, 6, *b"cmpflt\0\0\0\0\0\0\0\0\0\0"),
+    NameRow(0, 42, 6, *b"cmpfle\0\0\0\0\0\0\0\0\0\0"),
     NameRow(0, 43, 5, *b"sext8\0\0\0\0\0\0\0\0\0\0\0"),
     NameRow(0, 44, 6, *b"sext16\0\0\0\0\0\0\0\0\0\0"),
+    NameRow(0, 48, 8, *b"i32tof32\0\0\0\0\0\0\0\0"),
+    NameRow(0, 49, 8, *b"f32toi32\0\0\0\0\0\0\0\0"),
     // MOVEI
     NameRow(2, 0, 6, *b"moveil\0\0\0\0\0\0\0\0\0\0"),
     NameRow(2, 1, 6, *b"moveih\0\0\0\0\0\0\0\0\0\0"),

@@ -1,2 +1,3 @@
 -- Laws that several proofs cite, and the proofs of the claims.
 pub mod Filling
+pub mod Halves

@@ -3,28 +3,52 @@ ghost use mathlib.Core.Path.{_≡_};
 ghost use mathlib.Core.Bool.{cond};
 ghost use Prim.Native.Nat.{_%_, _<_};
 ghost use lib.ListN.{set};
-ghost use Rattle.vector.specs.Lanes.{lane, isOn, binaryLanes, unaryLanes, shuffled, blended};
-use alu::binary;
-use alu::unary;
+ghost use Rattle.alu.specs.Binary.{integer, arithmetic};
+ghost use Rattle.alu.specs.Unary.{integerUnary, conversion};
+ghost use Rattle.vector.specs.Lanes.{tab, lane, isOn, binaryLanes, unaryLanes, shuffled, blended};
+use alu::arithmetic;
+use alu::conversion;
+use alu::integer;
+use alu::integer_unary;
 use isa::BinaryOp;
 use isa::UnaryOp;
 
-fn each_binary(op: BinaryOp, x: [u32; 16], y: [u32; 16]) -> [u32; 16]
-    ensures { λ r. ⌜ r ≡ binaryLanes op x y ⌝ }
+fn each_integer(op: BinaryOp, x: [u32; 16], y: [u32; 16]) -> [u32; 16]
+    ensures { λ r. ⌜ r ≡ tab 16 (λ j. integer op (lane x j) (lane y j)) ⌝ }
 {
     let mut v = [0u32; 16];
     for j in 0..16usize {
-        v[j] = binary(op, x[j], y[j]);
+        v[j] = integer(op, x[j], y[j]);
     }
     v
 }
 
-fn each_unary(op: UnaryOp, x: [u32; 16]) -> [u32; 16]
-    ensures { λ r. ⌜ r ≡ unaryLanes op x ⌝ }
+fn each_float(op: BinaryOp, x: [u32; 16], y: [u32; 16]) -> [u32; 16]
+    ensures { λ r. ⌜ r ≡ tab 16 (λ j. arithmetic op (lane x j) (lane y j)) ⌝ }
 {
     let mut v = [0u32; 16];
     for j in 0..16usize {
-        v[j] = unary(op, x[j]);
+        v[j] = arithmetic(op, x[j], y[j]);
+    }
+    v
+}
+
+fn each_integer_unary(op: UnaryOp, x: [u32; 16]) -> [u32; 16]
+    ensures { λ r. ⌜ r ≡ tab 16 (λ j. integerUnary op (lane x j)) ⌝ }
+{
+    let mut v = [0u32; 16];
+    for j in 0..16usize {
+        v[j] = integer_unary(op, x[j]);
+    }
+    v
+}
+
+fn each_conversion(op: UnaryOp, x: [u32; 16]) -> [u32; 16]
+    ensures { λ r. ⌜ r ≡ tab 16 (λ j. conversion op (lane x j)) ⌝ }
+{
+    let mut v = [0u32; 16];
+    for j in 0..16usize {
+        v[j] = conversion(op, x[j]);
     }
     v
 }
@@ -34,17 +58,21 @@ fn binary_lanes(op: BinaryOp, x: [u32; 16], y: [u32; 16]) -> [u32; 16]
     ensures { λ r. ⌜ r ≡ binaryLanes op x y ⌝ }
 {
     match op {
-        BinaryOp::Or => each_binary(BinaryOp::Or, x, y),
-        BinaryOp::And => each_binary(BinaryOp::And, x, y),
-        BinaryOp::Xor => each_binary(BinaryOp::Xor, x, y),
-        BinaryOp::Add => each_binary(BinaryOp::Add, x, y),
-        BinaryOp::Sub => each_binary(BinaryOp::Sub, x, y),
-        BinaryOp::Mullo => each_binary(BinaryOp::Mullo, x, y),
-        BinaryOp::Mulhi => each_binary(BinaryOp::Mulhi, x, y),
-        BinaryOp::Mulhu => each_binary(BinaryOp::Mulhu, x, y),
-        BinaryOp::Ashr => each_binary(BinaryOp::Ashr, x, y),
-        BinaryOp::Shr => each_binary(BinaryOp::Shr, x, y),
-        BinaryOp::Shl => each_binary(BinaryOp::Shl, x, y),
+        BinaryOp::Or => each_integer(BinaryOp::Or, x, y),
+        BinaryOp::And => each_integer(BinaryOp::And, x, y),
+        BinaryOp::Xor => each_integer(BinaryOp::Xor, x, y),
+        BinaryOp::Add => each_integer(BinaryOp::Add, x, y),
+        BinaryOp::Sub => each_integer(BinaryOp::Sub, x, y),
+        BinaryOp::Mullo => each_integer(BinaryOp::Mullo, x, y),
+        BinaryOp::Mulhi => each_integer(BinaryOp::Mulhi, x, y),
+        BinaryOp::Mulhu => each_integer(BinaryOp::Mulhu, x, y),
+        BinaryOp::Ashr => each_integer(BinaryOp::Ashr, x, y),
+        BinaryOp::Shr => each_integer(BinaryOp::Shr, x, y),
+        BinaryOp::Shl => each_integer(BinaryOp::Shl, x, y),
+        BinaryOp::Fadd => each_float(BinaryOp::Fadd, x, y),
+        BinaryOp::Fsub => each_float(BinaryOp::Fsub, x, y),
+        BinaryOp::Fmul => each_float(BinaryOp::Fmul, x, y),
+        BinaryOp::Fdiv => each_float(BinaryOp::Fdiv, x, y),
     }
 }
 
@@ -52,11 +80,13 @@ fn unary_lanes(op: UnaryOp, x: [u32; 16]) -> [u32; 16]
     ensures { λ r. ⌜ r ≡ unaryLanes op x ⌝ }
 {
     match op {
-        UnaryOp::Clz => each_unary(UnaryOp::Clz, x),
-        UnaryOp::Ctz => each_unary(UnaryOp::Ctz, x),
-        UnaryOp::Move => each_unary(UnaryOp::Move, x),
-        UnaryOp::Sext8 => each_unary(UnaryOp::Sext8, x),
-        UnaryOp::Sext16 => each_unary(UnaryOp::Sext16, x),
+        UnaryOp::Clz => each_integer_unary(UnaryOp::Clz, x),
+        UnaryOp::Ctz => each_integer_unary(UnaryOp::Ctz, x),
+        UnaryOp::Move => each_integer_unary(UnaryOp::Move, x),
+        UnaryOp::Sext8 => each_integer_unary(UnaryOp::Sext8, x),
+        UnaryOp::Sext16 => each_integer_unary(UnaryOp::Sext16, x),
+        UnaryOp::IntToFloat => each_conversion(UnaryOp::IntToFloat, x),
+        UnaryOp::FloatToInt => each_conversion(UnaryOp::FloatToInt, x),
     }
 }
 

@@ -1,6 +1,6 @@
 //! Compares the proved C library with the second program, on every upper half word and on random and hostile input by fixed seeds: whole
 //! states and not samples of them. Prints what was compared, and at a difference its seed, what each side gave, and a listing.
-//! Arguments name the parts to compare, none all but 'all-words'. REPEAT=x takes x times as many random seeds.
+//! Arguments name the parts to compare, none all but 'all-words' and 'all-conversions'. REPEAT=x takes x times as many random seeds.
 
 mod images;
 mod library;
@@ -8,7 +8,7 @@ mod records;
 mod runs;
 mod words;
 
-use compare::report::{compare, repeated, Tally};
+use compare::report::{compare, repeated, Reach, Tally};
 use std::ops::RangeInclusive;
 
 /// A part of the comparison: its name, what it compares, and the seeds of its cases.
@@ -31,6 +31,8 @@ fn main() {
         Part { name: "writing", title: "instructions written", seeds: 0..=words::FORMATS * words::OPCODES - 1, case: &words::writing },
         Part { name: "runs", title: "lists of runs", seeds: repeated(2_000_000), case: &runs::lists },
         Part { name: "compares", title: "compares of operands at the edges", seeds: 0..=runs::COMPARES - 1, case: &runs::compares },
+        Part { name: "floats", title: "float operations on floats of every kind", seeds: repeated(4_800), case: &runs::floats },
+        Part { name: "all-conversions", title: "48 and 49 of all words", seeds: 0..=0xFFFF, case: &runs::conversions },
         Part { name: "refusals", title: "hostile records run, and starts", seeds: repeated(200_000), case: &refusals },
         Part { name: "images", title: "hostile records and images written and read", seeds: repeated(200_000), case: &images },
     ];
@@ -39,11 +41,17 @@ fn main() {
         eprintln!("compare: there is no part '{name}'");
         std::process::exit(2);
     }
-    let is_wanted = |part: &Part| if wanted.is_empty() { part.name != "all-words" } else { wanted.iter().any(|name| name == part.name) };
+    let reach = |name: &str| match name {
+        "runs" => Reach::Vectors,
+        "floats" => Reach::Floats,
+        _ => Reach::Anything,
+    };
+    let is_wanted =
+        |part: &Part| if wanted.is_empty() { !part.name.starts_with("all-") } else { wanted.iter().any(|name| name == part.name) };
     let same: Vec<bool> = parts
         .iter()
         .filter(|part| is_wanted(part))
-        .map(|part| compare(part.title, part.seeds.clone(), part.name == "runs", part.case))
+        .map(|part| compare(part.title, part.seeds.clone(), reach(part.name), part.case))
         .collect();
     let passed = same.iter().filter(|x| **x).count();
     println!("{passed} passed, {} failed", same.len() - passed);

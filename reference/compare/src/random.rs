@@ -58,17 +58,15 @@ impl Random {
     }
 
     fn r(&mut self) -> Instruction {
-        let opcode = self.below(28) as u8 + 1;
-        let opcode = match opcode {
-            26 => 32,
-            27 => 43,
-            28 => 44,
-            _ => opcode,
+        let opcode = match self.below(40) as u8 + 1 {
+            n @ 1..=25 => n,
+            n @ 26..=38 => n + 6,
+            n => n + 9,
         };
-        let is_unary = matches!(opcode, 12 | 13 | 32 | 43 | 44);
+        let is_unary = matches!(opcode, 12 | 13 | 32 | 43 | 44 | 48 | 49);
         let flags = match opcode {
-            1..=11 => self.of(&[0b000, 0b111, 0b110, 0b101]),
-            14..=23 => self.of(&[0b000, 0b011, 0b010, 0b001]),
+            1..=11 | 33..=36 => self.of(&[0b000, 0b111, 0b110, 0b101]),
+            14..=23 | 37..=42 => self.of(&[0b000, 0b011, 0b010, 0b001]),
             24 => 0b111,
             25 => 0b010,
             32 => self.of(&[0b000, 0b110, 0b100]),
@@ -77,6 +75,16 @@ impl Random {
         let (d, a) = (self.register(), self.register());
         let b = if is_unary { 0 } else { self.register() };
         Instruction::R { opcode, flags, d, a, b }
+    }
+
+    /// A float: zero, subnormal, near one, near what a whole number holds, large, infinite or a NaN, with few digits, all, or any.
+    pub fn float(&mut self) -> u32 {
+        let any = self.below(256) as u32;
+        let exponent =
+            self.of(&[0, 0, 1, 2, 23, 24, 25, 103, 104, 126, 127, 128, 149, 150, 151, 157, 158, 159, 252, 253, 254, 255, any, any]);
+        let any = self.below(1 << 23) as u32;
+        let digits = self.of(&[0, 0, 1, 2, 3, 0x3F_FFFF, 0x40_0000, 0x40_0001, 0x7F_FFFD, 0x7F_FFFE, 0x7F_FFFF, any, any, any]);
+        (self.below(2) as u32) << 31 | exponent << 23 | digits
     }
 
     fn i(&mut self) -> Instruction {
@@ -227,14 +235,15 @@ impl Random {
         step * self.below(memory as u64 / step as u64) as u32
     }
 
-    /// A number such as programs use: small, aligned, an address near the memory's end, or anything.
+    /// A number such as programs use: small, aligned, an address near the memory's end, a float, or anything.
     pub fn value(&mut self, memory: usize) -> u32 {
-        match self.below(6) {
+        match self.below(7) {
             0 => self.below(10) as u32,
             1 => 4 * self.below(64) as u32,
             2 => 64 * self.below(8) as u32,
             3 => self.below(memory as u64 + 16) as u32,
             4 => (memory as u32).wrapping_sub(self.below(80) as u32),
+            5 => self.float(),
             _ => self.word() as u32,
         }
     }

@@ -1,5 +1,6 @@
 //! What a comparison met: cases, issues and numbers, or the first difference with its seed and its program.
 
+use crate::floats::Kinds;
 use reference::machine::{Record, Status};
 use reference::run::{Ending, Moved};
 use std::any::Any;
@@ -23,6 +24,7 @@ pub struct Tally {
     endings: [u64; 3],
     traps: [u64; 7],
     vectors: [u64; VECTORS.len()],
+    pub floats: Kinds,
     /// The program of the case, for the listing of a difference.
     program: RefCell<Vec<u32>>,
 }
@@ -109,26 +111,63 @@ fn part(seeds: impl Iterator<Item = u64>, first: &AtomicU64, case: &impl Fn(u64,
     (tally, None)
 }
 
+/// The counts that are not 0, with their names.
+fn list(what: &str, counts: &[(String, u64)]) -> String {
+    let met: Vec<String> = counts.iter().filter(|(_, n)| *n > 0).map(|(name, n)| format!("{name}: {n}")).collect();
+    if met.is_empty() {
+        String::new()
+    } else {
+        format!("; {what}{}", met.join(", "))
+    }
+}
+
+/// The float cases of several tallies.
+fn floats(tallies: &[&Tally]) -> Kinds {
+    let mut all = Kinds::default();
+    tallies.iter().for_each(|tally| all.add(&tally.floats));
+    all
+}
+
 /// What several tallies met in all.
 fn summary(tallies: &[&Tally]) -> String {
     let sum = |of: &dyn Fn(&Tally) -> u64| tallies.iter().map(|tally| of(tally)).sum::<u64>();
-    let list = |what: &str, names: &[String], of: &dyn Fn(&Tally, usize) -> u64| {
-        let counts = names.iter().enumerate().map(|(i, name)| (name, sum(&|tally| of(tally, i))));
-        let met: Vec<String> = counts.filter(|(_, n)| *n > 0).map(|(name, n)| format!("{name}: {n}")).collect();
-        if met.is_empty() {
-            String::new()
-        } else {
-            format!("; {what}{}", met.join(", "))
-        }
+    let named = |what: &str, names: &[String], of: &dyn Fn(&Tally, usize) -> u64| {
+        let counts: Vec<(String, u64)> = names.iter().enumerate().map(|(i, name)| (name.clone(), sum(&|tally| of(tally, i)))).collect();
+        list(what, &counts)
     };
     let digits: Vec<String> = (0..11).map(|n| n.to_string()).collect();
     let endings = ["stopped", "stuck", "spent"].map(String::from);
-    let issues = list("", &["issues".to_string()], &|tally, _| tally.issues);
-    let numbers = list("numbers ", &digits, &|tally, i| tally.numbers[i]);
-    let ended = list("", &endings, &|tally, i| tally.endings[i]);
-    let traps = list("traps ", &digits[..7], &|tally, i| tally.traps[i]);
-    let vectors = list("vectors ", &VECTORS.map(String::from), &|tally, i| tally.vectors[i]);
-    format!("{} calls{numbers}{issues}{ended}{traps}{vectors}", sum(&|tally| tally.cases))
+    let issues = named("", &["issues".to_string()], &|tally, _| tally.issues);
+    let numbers = named("numbers ", &digits, &|tally, i| tally.numbers[i]);
+    let ended = named("", &endings, &|tally, i| tally.endings[i]);
+    let traps = named("traps ", &digits[..7], &|tally, i| tally.traps[i]);
+    let vectors = named("vectors ", &VECTORS.map(String::from), &|tally, i| tally.vectors[i]);
+    let floats = list("float cases ", &floats(tallies).sums());
+    format!("{} calls{numbers}{issues}{ended}{traps}{vectors}{floats}", sum(&|tally| tally.cases))
+}
+
+/// What a comparison has to meet, so that one which no longer reaches it is noticed.
+#[derive(Clone, Copy)]
+pub enum Reach {
+    Anything,
+    /// Vectors of every kind.
+    Vectors,
+    /// Of every float operation cases of every kind, in scalars and in lanes.
+    Floats,
+}
+
+impl Reach {
+    /// What was not met.
+    fn missing(self, tallies: &[&Tally]) -> Option<String> {
+        match self {
+            Reach::Anything => None,
+            Reach::Vectors => {
+                let none = (0..VECTORS.len()).find(|i| tallies.iter().all(|tally| tally.vectors[*i] == 0));
+                none.map(|i| format!("vectors {}", VECTORS[i]))
+            }
+            Reach::Floats => floats(tallies).missing(),
+        }
+    }
 }
 
 /// The seeds of a random comparison: so many, or REPEAT times as many.
@@ -137,8 +176,8 @@ pub fn repeated(seeds: u64) -> RangeInclusive<u64> {
     1..=(seeds as f64 * repeat) as u64
 }
 
-/// Runs a comparison over its seeds, on every processor; whether no difference was met, and vectors of every kind where it moves any.
-pub fn compare(name: &str, seeds: RangeInclusive<u64>, moves_vectors: bool, case: impl Fn(u64, &mut Tally) + Sync) -> bool {
+/// Runs a comparison over its seeds, on every processor; whether no difference was met, and all that it has to meet was.
+pub fn compare(name: &str, seeds: RangeInclusive<u64>, reach: Reach, case: impl Fn(u64, &mut Tally) + Sync) -> bool {
     let threads = available_parallelism().map_or(1, |n| n.get());
     let (first, case) = (AtomicU64::new(u64::MAX), &case);
     let parts: Vec<(Tally, Option<(u64, String)>)> = scope(|s| {
@@ -158,10 +197,9 @@ pub fn compare(name: &str, seeds: RangeInclusive<u64>, moves_vectors: bool, case
     }
     let tallies: Vec<&Tally> = parts.iter().map(|(tally, _)| tally).collect();
     println!("{name}: {}", summary(&tallies));
-    let missing = (0..VECTORS.len()).find(|i| tallies.iter().all(|tally| tally.vectors[*i] == 0));
-    if let (true, Some(i)) = (moves_vectors, missing) {
-        println!("{name}: no vector was {}", VECTORS[i]);
-        return false;
+    let missing = reach.missing(&tallies);
+    if let Some(kind) = &missing {
+        println!("{name}: none was met of {kind}");
     }
-    true
+    missing.is_none()
 }

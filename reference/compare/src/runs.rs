@@ -2,9 +2,11 @@
 
 use crate::library::{self, ending_number, record_bytes, zero_bytes};
 use crate::records::{any_record, damaged, stand_in, Verdicts};
+use compare::floats::OPERATIONS;
 use compare::machines::{budget, mask, Machine};
 use compare::random::Random;
 use compare::report::{same, Stored, Tally};
+use reference::float::convert;
 use reference::machine::{start, Record, ROOM_WORDS, ZERO};
 use reference::run::{run, run_seen};
 use reference::word::{write, Instruction};
@@ -145,6 +147,64 @@ pub fn compares(seed: u64, tally: &mut Tally) {
             (room[59], room[63]) = (mask, 0);
         }
         pair.run(&[write(instruction).expect("a word")], 1, tally);
+    }
+}
+
+/// Seed by seed one float operation in one form: on all pairs of sixteen operands in scalars, or of sixteen vectors of them in lanes.
+/// Those of one lane are near each other, and some are near the scalars.
+pub fn floats(seed: u64, tally: &mut Tally) {
+    let mut random = Random::new(seed ^ 0x466C_6F61);
+    let at = (seed % 12) as usize;
+    let operation = &OPERATIONS[at];
+    let flags = operation.forms[(seed / 12 % 4) as usize];
+    let mut machine = Machine::started(&mut random, 1);
+    let scalars = operation.operands(&mut random, &[]);
+    machine.room[16..32].copy_from_slice(&scalars);
+    for j in 0..16 {
+        for (i, operand) in operation.operands(&mut random, &scalars).into_iter().enumerate() {
+            machine.room[512 + 16 * (16 + i) + j] = operand;
+        }
+    }
+    let record = record_bytes(&machine.record);
+    let mut pair = Pair::new(machine, record);
+    for n in 0..256 {
+        let (a, b) = (16 + n / 16, if operation.opcode >= 48 { 0 } else { 16 + n % 16 });
+        let word = write(Instruction::R { opcode: operation.opcode, flags, d: 1, a: a as u8, b: b as u8 }).expect("a word");
+        let mask = if n % 3 == 0 { random.below(65536) as u32 } else { 0xFFFF };
+        for room in [&mut pair.machine.room, &mut pair.room2] {
+            (room[59], room[63]) = (mask, 0);
+        }
+        pair.run(&[word], 1, tally);
+        let room = &pair.machine.room;
+        let operand = |is_vector, i: usize, j| if is_vector { room[512 + 16 * i + j] } else { room[i] };
+        for j in (0..16).filter(|j| if flags == 0 { *j == 0 } else { mask >> j & 1 == 1 }) {
+            tally.floats.met(at, flags != 0, operand(flags & 2 != 0, a, j), operand(flags & 1 != 0, b, j));
+        }
+    }
+}
+
+/// 48 and 49 of 65,536 words, whose upper half is the seed, in lanes: half of the vector registers at a time, each into one of the others.
+pub fn conversions(seed: u64, tally: &mut Tally) {
+    let mut random = Random::new(1);
+    let mut machine = Machine::started(&mut random, 1);
+    let (mut record, mut result) = (record_bytes(&machine.record), [0; 2]);
+    for opcode in [48, 49] {
+        let program: Vec<u32> =
+            (0..32).map(|i| write(Instruction::R { opcode, flags: 0b110, d: 32 + i, a: i, b: 0 }).expect("a word")).collect();
+        for low in (0..0x1_0000).step_by(512) {
+            let first = (seed as u32) << 16 | low;
+            for n in 0..512 {
+                machine.room[512 + n] = first + n as u32;
+            }
+            (machine.room[59], machine.room[63]) = (0xFFFF, 0);
+            let number = library::run(&program, &mut machine.room, &mut machine.memory, &mut record, 32, &mut result);
+            assert_eq!((number, result[1]), (0, 32), "a run of 48 or 49");
+            for n in 0..512 {
+                let word = first + n as u32;
+                assert_eq!(convert(opcode, word), machine.room[1024 + n], "opcode {opcode} of {word:08X}");
+            }
+            tally.met(number);
+        }
     }
 }
 

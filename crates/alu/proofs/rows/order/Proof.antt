@@ -1,27 +1,30 @@
--- `rows::order` meets its contract: with the bias added, the order of the words is that of the numbers they stand for.
-use native.Mathlib.Omega.{arith}
+-- `rows::order` meets its contract: by the kind.
+use mathlib.Core.Path.{_∙_}
 use borrow.Author.Needs.{needs}
-use Rattle.alu.proofs.Ordered.{is-below, is-equal, is-above}
+use Rattle.alu.proofs.Ordered.{unbiased, biased}
 use Rattle.alu.proofs.rows.order.Statement.{statement}
 use Rattle.alu.proofs.rows.order.Tie as tie
 
 returns : tie.Need-returns
 returns c =
-    let b = c .before .before .before in
-    is-below (b .before .args .kind) (search needs) (search needs) (b .bias .ensures) (c .before .before .wrapping-add-u32 .ensures)
-    (c .before .wrapping-add-u322 .ensures) (c .if1 .taken)
+    let a = c .before .before .before .args in
+    rw (c .before .enum-told .given .1) (c .order-biased .ensures ∙ unbiased (a .x) (a .y) (search needs) (search needs))
 
 returns-2 : tie.Need-returns-2
 returns-2 c =
-    let b = c .before .before .before .before in
-    is-equal (b .before .args .kind) (search needs) (search needs) (b .bias .ensures) (c .before .before .before .wrapping-add-u32 .ensures)
-    (c .before .before .wrapping-add-u322 .ensures) (c .if2 .taken)
-
-returns-3 : tie.Need-returns-3
-returns-3 c =
-    let b = c .before .before .before .before in
-    is-above (b .before .args .kind) (search needs) (search needs) (b .bias .ensures) (c .before .before .before .wrapping-add-u32 .ensures)
-    (c .before .before .wrapping-add-u322 .ensures) (omega arith)
+    let a = c .before .before .before .args in
+    rw (c .before .enum-told2 .given .1) (c .order-biased2 .ensures ∙ biased (a .x) (a .y) (search needs) (search needs))
 
 pub order-spec : {M : Type 1} → statement M
-order-spec = tie.close (tie.spec (λ c κs. search needs) (λ c κs. search needs) (λ c κs. search needs) returns returns-2 returns-3)
+order-spec =
+    tie.close
+    (tie.spec
+    (λ c. search needs)
+    (λ c κs. search needs)
+    (λ c. search needs)
+    (λ c κs. search needs)
+    (λ c. search needs)
+    (λ c κs. search needs)
+    returns
+    returns-2
+    (λ c. rw (c .before .enum-told3 .given .1) (c .order-floats .ensures)))

@@ -1,5 +1,4 @@
 -- `scalar::compare` meets its contract: it answers by its row.
-use mathlib.Core.Bool.{Bool}
 use mathlib.Core.Path.{sym, ap, _∙_}
 use borrow.Author.Needs.{needs}
 use Rattle.alu.specs.declared.rows.CompareRow.{CompareRow}
@@ -13,7 +12,7 @@ returns c =
     let a = c .before .before .before .args in
     let r = c .before .before .compare-row .result in
     c .pick .ensures
-    ∙ ap (λ o. pick {A = Bool} o (r .below) (r .equal) (r .above)) (c .before .order .ensures)
+    ∙ ap (λ o. pick o (r .below) (r .equal) (r .above) (r .unordered)) (c .before .order .ensures)
     ∙ ap (λ (p : CompareRow). answer p (a .x) (a .y)) (c .before .before .compare-row .ensures)
     ∙ sym (by-row (a .op) (a .x) (a .y) (search needs) (search needs))
 

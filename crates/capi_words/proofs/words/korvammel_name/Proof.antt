@@ -1,12 +1,14 @@
 -- `korvammel_name` meets its contract: by whether the numbers have a word.
 use Prim.Native.Nat.{ℕ, suc, _≤_}
 use mathlib.Core.List.{List, [], _∷_}
-use mathlib.Core.Path.{_≡_, refl, ap, _∙_}
+use mathlib.Core.Path.{_≡_, refl, sym, ap, _∙_}
 use native.Mathlib.Omega.{arith}
 use lib.ListN.{length, getD}
-use Rattle.names.proofs.Names.{fits}
+use Rattle.names.proofs.Names.{fits-word}
 use Rattle.names.specs.Name.{nameOf, padded}
-use Rattle.fields.specs.Find.{wordFor}
+use Rattle.fields.proofs.Again.{has-word}
+use Rattle.fields.specs.Claims.{HasWord}
+use Rattle.fields.specs.Find.{wordFor, found}
 use Rattle.answer.specs.Left.{left}
 use Rattle.capi_words.specs.Words.{nameCall}
 use borrow.Author.Needs.{needs}
@@ -30,12 +32,14 @@ first-eight (a ∷ b ∷ c ∷ d ∷ e ∷ f ∷ g ∷ i ∷ []) h = refl
 first-eight (a ∷ b ∷ c ∷ d ∷ e ∷ f ∷ g ∷ i ∷ j ∷ ts) h = let z : suc (suc (suc (suc (suc (suc (suc (suc (suc (length ts))))))))) ≤ 8 = h in absurd (omega arith)
 
 returns : tie.Need-returns
-unfolding nameCall
+unfolding nameCall HasWord
 returns c =
     let s = c .before .before in
     let e = s .before .before .before .before .find .ensures ∙ ap wordFor (s .before .before .before .before .before .numbers-in .ensures) in
-    let i = s .before .before .found .given .0 .1 .0 in
-    rw (← e, s .before .before .found .given .1) (rw (s .name-of .ensures) (ap (left (length (nameOf i))) (first-eight (nameOf i) (fits i))))
+    let g = s .before .before .found .given in
+    let i = g .0 .1 .0 in
+    let h = fits-word i (g .0 .0) (has-word _ (g .0 .0) i .0 (sym e ∙ ap found (g .1)) .1) in
+    rw (← e, s .before .before .found .given .1) (rw (s .name-of .ensures) (ap (left (length (nameOf i))) (first-eight (nameOf i) h)))
 
 returns-2 : tie.Need-returns-2
 unfolding nameCall

@@ -1,41 +1,30 @@
--- `outcome::answers` meets its contract: bit j is filled by the answer of lane j.
-use Prim.Native.Nat.{_-_}
+-- `outcome::answers` meets its contract: the row's kind tells floats from whole numbers.
+use mathlib.Core.Path.{sym, ap, _∙_}
 use borrow.Author.Needs.{needs}
-use Rattle.alu.specs.Compare.{compare}
-use Rattle.vector.specs.Lanes.{lane}
-use Rattle.compares.specs.Outcome.{answersOf}
-use Rattle.compares.proofs.Flags.{Collecting, start, more, whole}
+use Rattle.alu.specs.declared.rows.CompareRow.{CompareRow}
+use Rattle.compares.specs.Outcome.{isFloat, outcomesOf}
 use Rattle.compares.proofs.outcome.answers.Statement.{statement}
 use Rattle.compares.proofs.outcome.answers.Tie as tie
 
-abbrev Inv-loop : tie.InvT-loop
-Inv-loop op o x y r₀ j₀ r j = Collecting (λ k. compare op (lane x k) (lane y k)) r j
+float-answers-requires : tie.Need-float-answers-requires
+float-answers-requires c κs =
+    ap (λ (r : CompareRow). isFloat (r .kind)) (sym (c .before .before .compare-row .ensures)) ∙ sym (c .before .is-float .ensures) ∙ c .if1 .taken
 
-abbrev μ-loop : tie.MeasureT-loop
-μ-loop op o x y r₀ j₀ r j = 16 - j
-
-loop-again : tie.Need-loop-again Inv-loop μ-loop
-loop-again c = more (c .before .before .loop .inv) (search needs) (c .answer .ensures)
-
-returns : tie.Need-returns Inv-loop μ-loop
-unfolding answersOf
-returns c = whole (c .before .loop .inv) (search needs)
+each-integer-requires : tie.Need-each-integer-requires
+each-integer-requires c κs =
+    let row = c .before .before .before .compare-row .ensures in (
+      c .outcomes-of .ensures ∙ ap outcomesOf row,
+      ap (λ (r : CompareRow). isFloat (r .kind)) (sym row) ∙ sym (c .before .before .is-float .ensures) ∙ c .before .if1 .left,
+    )
 
 pub answers-spec : {M : Type 1} → statement M
 answers-spec =
     tie.close
     (tie.spec
-    Inv-loop
-    μ-loop
-    (λ c. start _)
-    (λ c. search needs)
-    (λ c. search needs)
-    (λ c. search needs)
+    (λ c κs. search needs)
+    (λ c κs. search needs)
+    float-answers-requires
     (λ c. search needs)
     (λ c κs. search needs)
-    (λ c. search needs)
-    (λ c. search needs)
-    (λ c. search needs)
-    (λ c. search needs)
-    loop-again
-    returns)
+    each-integer-requires
+    (λ c. search needs))

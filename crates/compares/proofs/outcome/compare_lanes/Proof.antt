@@ -14,9 +14,9 @@ use Rattle.compares.proofs.outcome.compare_lanes.Tie as tie
 returns : tie.Need-returns
 unfolding answersOf compareLanes
 returns c =
-    let a = c .before .before .args in
+    let a = c .before .args in
     ap (λ (n : ℕ). bitAnd n (a .mask)) (c .answers .ensures)
     ∙ masked 16 (a .mask) (λ j. compare (a .op) (lane (a .x) j) (lane (a .y) j))
 
 pub compare-lanes-spec : {M : Type 1} → statement M
-compare-lanes-spec = tie.close (tie.spec (λ c κs. search needs) (λ c κs. search needs) returns)
+compare-lanes-spec = tie.close (tie.spec (λ c κs. search needs) returns)

@@ -29,5 +29,5 @@ write-i-spec =
     (λ c κs. search needs)
     (λ c κs. search needs)
     i-requires
-    (λ c. rw (← c .before .before .before .before .r-opcode .ensures, ← c .before .before .before .i-allows .ensures, ← c .before .before .fits2 .ensures, lt-ltb (c .before .before .before .before .before .args .immediate % 512) 512 (omega arith)) (word _ (none ∷ some _ ∷ some _ ∷ some _ ∷ none ∷ some _ ∷ none ∷ []) (c .before .if1 .taken) (c .i .ensures)))
-    (λ c. rw (← c .before .before .before .r-opcode .ensures, ← c .before .before .i-allows .ensures, ← c .before .fits2 .ensures, lt-ltb (c .before .before .before .before .args .immediate % 512) 512 (omega arith)) (none-written _ (none ∷ some _ ∷ some _ ∷ some _ ∷ none ∷ some _ ∷ none ∷ []) _ (c .if1 .left))))
+    (λ c. rw (← c .before .before .before .i-allows .ensures, ← c .before .before .before .before .r-opcode .ensures, ← c .before .before .fits2 .ensures, lt-ltb (c .before .before .before .before .before .args .immediate % 512) 512 (omega arith)) (word _ (none ∷ some _ ∷ some _ ∷ some _ ∷ none ∷ some _ ∷ none ∷ []) (c .before .if1 .taken) (c .i .ensures)))
+    (λ c. rw (← c .before .before .i-allows .ensures, ← c .before .before .before .r-opcode .ensures, ← c .before .fits2 .ensures, lt-ltb (c .before .before .before .before .args .immediate % 512) 512 (omega arith)) (none-written _ (none ∷ some _ ∷ some _ ∷ some _ ∷ none ∷ some _ ∷ none ∷ []) _ (c .if1 .left))))
