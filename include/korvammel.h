@@ -27,8 +27,12 @@
  *    8  the word is not fitted
  *    9  the image's length is not 36,948 + 68 x (memory length / 64)
  *   10  a record of the image (or of a machine record) has a wrong mark, or a thread, register or block number out of place
+ *   15  a line of Intel HEX is no record of type 00, 01 or 04, or its checksum is wrong
+ *   16  a record of Intel HEX begins before the end of the last one, or goes past FFFF
+ *   17  Intel HEX has no end record, or something behind it
+ *   18  the buffer for words or text is too short
  *
- * They are checked in the order 1, 2, 3, 5, 9, 10, 4, and the first that applies is given.
+ * They are checked in the order 1, 2, 3, 5, 9, 10, 4, and the first that applies is given. The calls on Intel HEX say their own.
  */
 #ifndef KORVAMMEL_H
 #define KORVAMMEL_H
@@ -94,6 +98,24 @@ uint32_t korvammel_write_word(const uint32_t instruction[KORVAMMEL_INSTRUCTION],
 /* Puts an instruction's name, in ASCII with zeros behind it, and answers its length, 2 to 8. Where the instruction has no word, so that
  * korvammel_write_word answers 6, it answers 0 and leaves `name`. */
 size_t korvammel_name(const uint32_t instruction[KORVAMMEL_INSTRUCTION], uint8_t name[KORVAMMEL_NAME]);
+
+/* Bytes of the text that a program of so many words, 1 to 16,384, is exported as. */
+#define KORVAMMEL_HEX(words) (12 * (((words) + 3) / 4) + 8 * (words) + 12)
+
+/* Numbers that an import reports: how many words, and the line that is refused. */
+#define KORVAMMEL_HEX_RESULT 2
+
+/* Imports a program from Intel HEX, a text of any length: puts its words at the start of `program`, and leaves what stands behind them.
+ * Lines end in LF or CR LF, the last too; addresses rise, and what no record covers below the last one's end is zero. Answers 0; 15, 16 or
+ * 17, the first in the file and on one line in the order 17, 15, 16; then 1, also for part words; then 18. `result` becomes the number of
+ * words and 0, or, where it answers a number of the table, 0 and the line, counted from 1, or 0 for 1 and 18; `program` is then left. */
+uint32_t korvammel_hex_import(const uint8_t *text, size_t text_length, uint32_t *program, size_t program_length,
+                              size_t result[KORVAMMEL_HEX_RESULT]);
+
+/* Exports a program into Intel HEX: 16 data bytes a record, the last may be shorter, LF behind each line, no type 04. Puts the text at the
+ * start of `text`, leaves what stands behind it, and puts its length, KORVAMMEL_HEX(program_length), into `length`. Answers 0, 1, then
+ * 18. Importing the text gives the program again. */
+uint32_t korvammel_hex_export(const uint32_t *program, size_t program_length, uint8_t *text, size_t text_length, size_t *length);
 
 /* Starts the threads of a mask, bit t for thread t: clears the registers, sets every s59 to 0xFFFF, and writes the record. Answers 0,
  * 2 or 5; where it answers 2 or 5 it writes a record with every number 0, and leaves the registers. */

@@ -7,8 +7,8 @@
 
 #include "korvammel.h"
 
-enum { START, RUN, WRITE, READ, WORDS, EMPTY, CALLS };
-static const char *const names[CALLS] = {"start", "run", "image_write", "image_read", "words"};
+enum { START, RUN, WRITE, READ, WORDS, EXPORT, IMPORT, EMPTY, CALLS };
+static const char *const names[CALLS] = {"start", "run", "image_write", "image_read", "words", "hex_export", "hex_import"};
 
 static uint8_t stack[65536];
 static ucontext_t here, there;
@@ -16,6 +16,8 @@ static int call;
 
 static uint32_t program[16384], registers[KORVAMMEL_REGISTERS];
 static size_t words;
+static uint8_t text[KORVAMMEL_HEX(16384)];
+static size_t length;
 static uint8_t memory[128], record[KORVAMMEL_RECORD], image[KORVAMMEL_IMAGE(128)];
 
 // Every word of a program read, written again and named.
@@ -31,12 +33,15 @@ static void take_words(void) {
 
 static void make(void) {
     uint32_t result[2];
+    size_t found[KORVAMMEL_HEX_RESULT];
     switch (call) {
     case START: korvammel_start(3, registers, KORVAMMEL_REGISTERS, record); break;
     case RUN: korvammel_run(program, words, registers, KORVAMMEL_REGISTERS, memory, sizeof memory, record, 1000, result); break;
     case WRITE: korvammel_image_write(registers, KORVAMMEL_REGISTERS, memory, sizeof memory, record, image, sizeof image); break;
     case READ: korvammel_image_read(image, sizeof image, registers, KORVAMMEL_REGISTERS, memory, sizeof memory, record); break;
     case WORDS: take_words(); break;
+    case EXPORT: korvammel_hex_export(program, words, text, sizeof text, &length); break;
+    case IMPORT: korvammel_hex_import(text, length, program, 16384, found); break;
     default: break;
     }
 }

@@ -46,3 +46,19 @@ bad-length = 9
 -- "10: an image record has a wrong mark, or a thread, register or block number out of place"
 abbrev pub bad-image : ℕ
 bad-image = 10
+
+-- Document 02 adds to the table. T-06: "15 bad record or checksum"
+abbrev pub bad-hex-record : ℕ
+bad-hex-record = 15
+
+-- "16 order, overlap or wrap past FFFF"
+abbrev pub bad-hex-order : ℕ
+bad-hex-order = 16
+
+-- "17 no end record (seen past the last line) or anything after it"
+abbrev pub bad-hex-end : ℕ
+bad-hex-end = 17
+
+-- T-06: "18 buffer too short, on export too"
+abbrev pub short-buffer : ℕ
+short-buffer = 18

@@ -26,8 +26,22 @@ fn meaning(number: u8) {
         5 => say(b"a mask is 1 to 255"),
         9 => say(b"an image has 36,948 bytes and 68 more for each 64 bytes of memory"),
         10 => say(b"an image record has a wrong mark, or a number out of place"),
+        15 => say(b"it is no record, or its checksum is wrong"),
+        16 => say(b"its addresses begin before the end of the last record, or go past FFFF"),
+        17 => say(b"there is no end record, or something behind it"),
         _ => say(b"see document 01's table"),
     }
+}
+
+// A number of the papers' tables, for a line of a text; the command puts the text's name before it.
+pub fn refuse_at(line: usize, number: u8) {
+    say(b"line ");
+    io::print_decimal(STDERR_FILENO, line as u64);
+    say(b": ");
+    io::print_decimal(STDERR_FILENO, number as u64);
+    say(b": ");
+    meaning(number);
+    say(b"\n");
 }
 
 // A line for a number of document 01's table.

@@ -6,6 +6,7 @@ mod writing;
 pub use complaints::complain;
 pub use complaints::fail;
 pub use complaints::refuse;
+pub use complaints::refuse_at;
 pub use reading::Filled;
 pub use reading::read_file;
 pub use reading::read_stream;

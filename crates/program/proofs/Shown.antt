@@ -5,7 +5,9 @@ use mathlib.Core.List.{List}
 use mathlib.Core.Path.{_≡_, sym, subst}
 use native.Mathlib.Omega.{arith}
 use lib.ListN.{length}
-use Rattle.program.specs.Program.{badBytes, programIn, loads}
+use Rattle.answer.specs.Refusal.{badProgram}
+use Rattle.little_endian.specs.Numbers.{bytesOf}
+use Rattle.program.specs.Program.{badBytes, programIn, loads, saves}
 use Rattle.text.proofs.Shown.{Within, writes-start}
 use Rattle.text.specs.Buffer.{wrote, writes}
 
@@ -19,3 +21,14 @@ loads-room input l = go (badBytes (length input))
 
 pub words-within : (input l : List ℕ) (r : ℕ) (b : List ℕ) → wrote r b ≡ loads input l → r ≤ length b
 words-within input l r b e = subst Within (sym e) (loads-room input l)
+
+saves-room : (words l : List ℕ) → Within (saves words l)
+unfolding saves
+saves-room words l = go (badProgram (length words))
+  where
+    go : (t : Bool) → Within (cond t (wrote 0 l) (writes l 0 (bytesOf (length words) words)))
+    go true = omega arith
+    go false = writes-start l (bytesOf (length words) words)
+
+pub bytes-within : (words l : List ℕ) (r : ℕ) (b : List ℕ) → wrote r b ≡ saves words l → r ≤ length b
+bytes-within words l r b e = subst Within (sym e) (saves-room words l)

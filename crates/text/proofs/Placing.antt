@@ -60,3 +60,7 @@ puts-fits l at t u fits =
 -- the same of the first text
 pub puts-at : (l : List ℕ) (at : ℕ) (u : List ℕ) → at + length u ≤ length l → puts (wrote at l) u ≡ writes l at u
 puts-at l at u fits = ap (λ (w : Wrote). puts w u) (writes-none l at) ∙ puts-fits l at [] u (omega (arith, fits))
+
+-- what was written tells the place behind it and the buffer's length
+pub length-wrote : (l : List ℕ) (at : ℕ) (t : List ℕ) (e : ℕ) (b : List ℕ) → at + length t ≤ length l → wrote e b ≡ writes l at t → (e ≡ at + length t) × (length b ≡ length l)
+length-wrote l at t e b fits p = (end-is p, ap length (buffer-is p) ∙ length-placed l at t fits)

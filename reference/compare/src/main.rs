@@ -2,20 +2,22 @@
 //! states and not samples of them. Prints what was compared, and at a difference its seed, what each side gave, and a listing.
 //! Arguments name the parts to compare, none all but 'all-words' and 'all-conversions'. REPEAT=x takes x times as many random seeds.
 
+mod hex;
 mod images;
 mod library;
 mod records;
 mod runs;
 mod words;
 
-use compare::report::{compare, repeated, Reach, Tally};
+use compare::report::{compare, repeated, Reach, Tally, VECTORS};
 use std::ops::RangeInclusive;
 
-/// A part of the comparison: its name, what it compares, and the seeds of its cases.
+/// A part of the comparison: its name, what it compares, the seeds of its cases, and what it has to meet.
 struct Part<'a> {
     name: &'a str,
     title: &'a str,
     seeds: RangeInclusive<u64>,
+    reach: Reach,
     case: &'a (dyn Fn(u64, &mut Tally) + Sync),
 }
 
@@ -26,33 +28,87 @@ fn main() {
     let refusals = |seed, tally: &mut Tally| runs::refusals(seed, &verdicts, tally);
     let images = |seed, tally: &mut Tally| images::both_ways(seed, &verdicts, tally);
     let parts = [
-        Part { name: "words", title: "words read, named and written again", seeds: 0..=0xFFFF, case: &words::reading },
-        Part { name: "all-words", title: "all words read, named and written again", seeds: 0..=0xFFFF, case: &words::reading_all },
-        Part { name: "writing", title: "instructions written", seeds: 0..=words::FORMATS * words::OPCODES - 1, case: &words::writing },
-        Part { name: "runs", title: "lists of runs", seeds: repeated(2_000_000), case: &runs::lists },
-        Part { name: "compares", title: "compares of operands at the edges", seeds: 0..=runs::COMPARES - 1, case: &runs::compares },
-        Part { name: "floats", title: "float operations on floats of every kind", seeds: repeated(4_800), case: &runs::floats },
-        Part { name: "all-conversions", title: "48 and 49 of all words", seeds: 0..=0xFFFF, case: &runs::conversions },
-        Part { name: "refusals", title: "hostile records run, and starts", seeds: repeated(200_000), case: &refusals },
-        Part { name: "images", title: "hostile records and images written and read", seeds: repeated(200_000), case: &images },
+        Part {
+            name: "words",
+            title: "words read, named and written again",
+            seeds: 0..=0xFFFF,
+            reach: Reach::Anything,
+            case: &words::reading,
+        },
+        Part {
+            name: "all-words",
+            title: "all words read, named and written again",
+            seeds: 0..=0xFFFF,
+            reach: Reach::Anything,
+            case: &words::reading_all,
+        },
+        Part {
+            name: "writing",
+            title: "instructions written",
+            seeds: 0..=words::FORMATS * words::OPCODES - 1,
+            reach: Reach::Anything,
+            case: &words::writing,
+        },
+        Part { name: "runs", title: "lists of runs", seeds: repeated(2_000_000), reach: Reach::Kinds(&VECTORS), case: &runs::lists },
+        Part {
+            name: "compares",
+            title: "compares of operands at the edges",
+            seeds: 0..=runs::COMPARES - 1,
+            reach: Reach::Anything,
+            case: &runs::compares,
+        },
+        Part {
+            name: "floats",
+            title: "float operations on floats of every kind",
+            seeds: repeated(4_800),
+            reach: Reach::Floats,
+            case: &runs::floats,
+        },
+        Part {
+            name: "all-conversions",
+            title: "48 and 49 of all words",
+            seeds: 0..=0xFFFF,
+            reach: Reach::Anything,
+            case: &runs::conversions,
+        },
+        Part {
+            name: "refusals",
+            title: "hostile records run, and starts",
+            seeds: repeated(200_000),
+            reach: Reach::Anything,
+            case: &refusals,
+        },
+        Part {
+            name: "hex",
+            title: "Intel HEX imported",
+            seeds: repeated(100_000),
+            reach: Reach::Kinds(&hex::KINDS),
+            case: &hex::importing,
+        },
+        Part {
+            name: "hex-export",
+            title: "programs exported and imported",
+            seeds: repeated(20_000),
+            reach: Reach::Kinds(&hex::SIZES),
+            case: &hex::exporting,
+        },
+        Part {
+            name: "images",
+            title: "hostile records and images written and read",
+            seeds: repeated(200_000),
+            reach: Reach::Anything,
+            case: &images,
+        },
     ];
     let wanted: Vec<String> = std::env::args().skip(1).collect();
     if let Some(name) = wanted.iter().find(|name| parts.iter().all(|part| part.name != **name)) {
         eprintln!("compare: there is no part '{name}'");
         std::process::exit(2);
     }
-    let reach = |name: &str| match name {
-        "runs" => Reach::Vectors,
-        "floats" => Reach::Floats,
-        _ => Reach::Anything,
-    };
     let is_wanted =
         |part: &Part| if wanted.is_empty() { !part.name.starts_with("all-") } else { wanted.iter().any(|name| name == part.name) };
-    let same: Vec<bool> = parts
-        .iter()
-        .filter(|part| is_wanted(part))
-        .map(|part| compare(part.title, part.seeds.clone(), reach(part.name), part.case))
-        .collect();
+    let same: Vec<bool> =
+        parts.iter().filter(|part| is_wanted(part)).map(|part| compare(part.title, part.seeds.clone(), part.reach, part.case)).collect();
     let passed = same.iter().filter(|x| **x).count();
     println!("{passed} passed, {} failed", same.len() - passed);
     if passed < same.len() {

@@ -11,7 +11,13 @@ use std::sync::atomic::{AtomicU64, Ordering};
 use std::thread::{available_parallelism, scope};
 
 /// What is counted of vectors: those at no multiple of 64, and those stored over a part of the last one of another thread in that run.
-const VECTORS: [&str; 2] = ["over two blocks", "stored over a part of another thread's"];
+pub const VECTORS: [&str; 2] = ["vectors over two blocks", "vectors stored over a part of another thread's"];
+
+/// The most kinds of cases that a comparison counts.
+const KINDS: usize = 32;
+
+/// The numbers that calls give: those of documents 01 and 02 so far.
+const NUMBERS: usize = 19;
 
 /// The last vector that each thread stored in a run.
 pub type Stored = [Option<Moved>; 8];
@@ -20,10 +26,11 @@ pub type Stored = [Option<Moved>; 8];
 pub struct Tally {
     cases: u64,
     issues: u64,
-    numbers: [u64; 11],
+    numbers: [u64; NUMBERS],
     endings: [u64; 3],
     traps: [u64; 7],
-    vectors: [u64; VECTORS.len()],
+    /// By kind of case, as the comparison names them.
+    kinds: [u64; KINDS],
     pub floats: Kinds,
     /// The program of the case, for the listing of a difference.
     program: RefCell<Vec<u32>>,
@@ -51,12 +58,17 @@ impl Tally {
     /// An issue of thread t, and the vector that it moved.
     pub fn issued(&mut self, t: usize, moved: Option<Moved>, stored: &mut Stored) {
         let Some(vector) = moved else { return };
-        self.vectors[0] += (vector.at % 64 != 0) as u64;
+        self.kinds[0] += (vector.at % 64 != 0) as u64;
         if vector.is_store {
             stored[t] = None;
-            self.vectors[1] += stored.iter().flatten().any(|other| overlap(*other, vector)) as u64;
+            self.kinds[1] += stored.iter().flatten().any(|other| overlap(*other, vector)) as u64;
             stored[t] = Some(vector);
         }
+    }
+
+    /// A case of a kind.
+    pub fn of_kind(&mut self, kind: usize) {
+        self.kinds[kind] += 1;
     }
 
     /// One call compared, and the number that both sides gave.
@@ -129,41 +141,50 @@ fn floats(tallies: &[&Tally]) -> Kinds {
 }
 
 /// What several tallies met in all.
-fn summary(tallies: &[&Tally]) -> String {
+fn summary(tallies: &[&Tally], reach: Reach) -> String {
     let sum = |of: &dyn Fn(&Tally) -> u64| tallies.iter().map(|tally| of(tally)).sum::<u64>();
     let named = |what: &str, names: &[String], of: &dyn Fn(&Tally, usize) -> u64| {
         let counts: Vec<(String, u64)> = names.iter().enumerate().map(|(i, name)| (name.clone(), sum(&|tally| of(tally, i)))).collect();
         list(what, &counts)
     };
-    let digits: Vec<String> = (0..11).map(|n| n.to_string()).collect();
+    let digits: Vec<String> = (0..NUMBERS).map(|n| n.to_string()).collect();
     let endings = ["stopped", "stuck", "spent"].map(String::from);
     let issues = named("", &["issues".to_string()], &|tally, _| tally.issues);
     let numbers = named("numbers ", &digits, &|tally, i| tally.numbers[i]);
     let ended = named("", &endings, &|tally, i| tally.endings[i]);
     let traps = named("traps ", &digits[..7], &|tally, i| tally.traps[i]);
-    let vectors = named("vectors ", &VECTORS.map(String::from), &|tally, i| tally.vectors[i]);
+    let names: Vec<String> = reach.kinds().iter().map(|kind| kind.to_string()).collect();
+    let kinds = named("", &names, &|tally, i| tally.kinds[i]);
     let floats = list("float cases ", &floats(tallies).sums());
-    format!("{} calls{numbers}{issues}{ended}{traps}{vectors}{floats}", sum(&|tally| tally.cases))
+    format!("{} calls{numbers}{issues}{ended}{traps}{kinds}{floats}", sum(&|tally| tally.cases))
 }
 
 /// What a comparison has to meet, so that one which no longer reaches it is noticed.
 #[derive(Clone, Copy)]
 pub enum Reach {
     Anything,
-    /// Vectors of every kind.
-    Vectors,
+    /// A case of each of these kinds.
+    Kinds(&'static [&'static str]),
     /// Of every float operation cases of every kind, in scalars and in lanes.
     Floats,
 }
 
 impl Reach {
+    /// The kinds of cases that a tally counts by their place.
+    fn kinds(self) -> &'static [&'static str] {
+        match self {
+            Reach::Kinds(kinds) => kinds,
+            Reach::Anything | Reach::Floats => &[],
+        }
+    }
+
     /// What was not met.
     fn missing(self, tallies: &[&Tally]) -> Option<String> {
         match self {
             Reach::Anything => None,
-            Reach::Vectors => {
-                let none = (0..VECTORS.len()).find(|i| tallies.iter().all(|tally| tally.vectors[*i] == 0));
-                none.map(|i| format!("vectors {}", VECTORS[i]))
+            Reach::Kinds(kinds) => {
+                let none = (0..kinds.len()).find(|i| tallies.iter().all(|tally| tally.kinds[*i] == 0));
+                none.map(|i| kinds[i].to_string())
             }
             Reach::Floats => floats(tallies).missing(),
         }
@@ -196,7 +217,7 @@ pub fn compare(name: &str, seeds: RangeInclusive<u64>, reach: Reach, case: impl 
         return false;
     }
     let tallies: Vec<&Tally> = parts.iter().map(|(tally, _)| tally).collect();
-    println!("{name}: {}", summary(&tallies));
+    println!("{name}: {}", summary(&tallies, reach));
     let missing = reach.missing(&tallies);
     if let Some(kind) = &missing {
         println!("{name}: none was met of {kind}");

@@ -3,7 +3,7 @@
 
 use compare::machines::{budget, mask, Machine};
 use compare::random::Random;
-use compare::report::{compare, repeated, same, Reach, Stored, Tally};
+use compare::report::{compare, repeated, same, Reach, Stored, Tally, VECTORS};
 use reference::image::record_bytes;
 use reference::machine::Record;
 use reference::run::run_seen;
@@ -78,7 +78,7 @@ fn lists(seed: u64, tally: &mut Tally) {
 
 fn main() {
     std::panic::set_hook(Box::new(|_| {}));
-    if !compare("runs of the rivals", repeated(20_000), Reach::Vectors, lists) {
+    if !compare("runs of the rivals", repeated(20_000), Reach::Kinds(&VECTORS), lists) {
         std::process::exit(1);
     }
 }
