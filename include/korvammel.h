@@ -25,14 +25,16 @@
  *    6  the instruction has no word
  *    7  the word is undefined
  *    8  the word is not fitted
- *    9  the image's length is not 36,948 + 68 x (memory length / 64)
+ *    9  the image's length is not that of its form: 36,980 + 68 x (memory length / 64), in the old form 36,948 + the same; reading
+ *       takes either
  *   10  a record of the image (or of a machine record) has a wrong mark, or a thread, register or block number out of place
+ *   11  the old form is asked for, a count of turns is not 0, and dropping the counts is not allowed
  *   15  a line of Intel HEX is no record of type 00, 01 or 04, or its checksum is wrong
  *   16  a record of Intel HEX begins before the end of the last one, or goes past FFFF
  *   17  Intel HEX has no end record, or something behind it
  *   18  the buffer for words or text is too short
  *
- * They are checked in the order 1, 2, 3, 5, 9, 10, 4, and the first that applies is given. The calls on Intel HEX say their own.
+ * They are checked in the order 1, 2, 3, 5, 9, 10, 4, 11, and the first that applies is given. The calls on Intel HEX say their own.
  */
 #ifndef KORVAMMEL_H
 #define KORVAMMEL_H
@@ -46,24 +48,26 @@ extern "C" {
 
 /* Raised whenever an array's length, the place of something in it or the meaning of a number changes: a board's program can ask for the
  * one that it was written for. */
-#define KORVAMMEL_API 2
+#define KORVAMMEL_API 3
 
 /* Words of the register room: thread t (0..7), scalar i at 64t+i; vector i, lane j at 512+1024t+16i+j. */
 #define KORVAMMEL_REGISTERS 8704
 #define KORVAMMEL_SCALAR(t, i) (64 * (t) + (i))
 #define KORVAMMEL_LANE(t, i, j) (512 + 1024 * (t) + 16 * (i) + (j))
 
-/* Bytes of a machine record: as an image begins, "HD", last, enabled, and then for each of the eight threads "TH", thread, status,
- * reason, id, count. */
-#define KORVAMMEL_RECORD 60
+/* Bytes of a machine record: as an image begins, "HD", last, enabled, and then for each of the eight threads "TI", thread, status,
+ * reason, id, count, and the count of its turns in four bytes, the lowest first. */
+#define KORVAMMEL_RECORD 92
 
-/* The places of these numbers in a record; of thread t (0..7) its status, and what the status carries, 0 where it does not. */
+/* The places of these numbers in a record; of thread t (0..7) its status, what the status carries, 0 where it does not, and the first
+ * byte of its count of turns: the issues that it has had since its start, modulo 2^32. */
 #define KORVAMMEL_LAST 2
 #define KORVAMMEL_ENABLED 3
-#define KORVAMMEL_STATUS(t) (7 * (t) + 7)
-#define KORVAMMEL_REASON(t) (7 * (t) + 8)
-#define KORVAMMEL_BARRIER(t) (7 * (t) + 9)
-#define KORVAMMEL_COUNT(t) (7 * (t) + 10)
+#define KORVAMMEL_STATUS(t) (11 * (t) + 7)
+#define KORVAMMEL_REASON(t) (11 * (t) + 8)
+#define KORVAMMEL_BARRIER(t) (11 * (t) + 9)
+#define KORVAMMEL_COUNT(t) (11 * (t) + 10)
+#define KORVAMMEL_TURNS(t) (11 * (t) + 11)
 
 /* Statuses. */
 #define KORVAMMEL_IDLE 0
@@ -72,8 +76,10 @@ extern "C" {
 #define KORVAMMEL_TRAPPED 3 /* with a reason, 1 to 6 */
 #define KORVAMMEL_WAITING 4 /* with a barrier id, 0 to 31, and a count, 1 to 8 */
 
-/* Bytes of the image of a machine with so many bytes of memory. */
-#define KORVAMMEL_IMAGE(memory_length) (36948 + 68 * ((memory_length) / 64))
+/* Bytes of the image of a machine with so many bytes of memory, and of one in the old form, which has no counts of turns ("TH" in place
+ * of "TI", without the last four bytes). */
+#define KORVAMMEL_IMAGE(memory_length) (36980 + 68 * ((memory_length) / 64))
+#define KORVAMMEL_OLD_IMAGE(memory_length) (36948 + 68 * ((memory_length) / 64))
 
 /* An instruction is six numbers: its format (0 R, 1 I, 2 MOVEI, 3 J, 4 C, 5 M), its opcode in that format, its vector flags, and
  *   R      d, a, b              flags of d, a and b, d highest
@@ -140,8 +146,13 @@ uint32_t korvammel_run(const uint32_t *program, size_t program_length, uint32_t 
 uint32_t korvammel_image_write(const uint32_t *registers, size_t registers_length, const uint8_t *memory, size_t memory_length,
                                const uint8_t record[KORVAMMEL_RECORD], uint8_t *image, size_t image_length);
 
-/* Reads an image into registers, memory and record. Answers 0, 2, 3, 9, 10 or 4; where it answers a number it writes a record with
- * every number 0, and leaves registers and memory. */
+/* Writes a machine's image in the old form, which has no counts of turns: every byte of it. They are 0, or `drop` allows them to be left
+ * out: it does where it is not 0. Answers 0, 2, 3, 9, 10, 4 or 11. */
+uint32_t korvammel_image_write_old(const uint32_t *registers, size_t registers_length, const uint8_t *memory, size_t memory_length,
+                                   const uint8_t record[KORVAMMEL_RECORD], uint32_t drop, uint8_t *image, size_t image_length);
+
+/* Reads an image of either form, which its length tells, into registers, memory and record; from an old one every count of turns is 0.
+ * Answers 0, 2, 3, 9, 10 or 4; where it answers a number it writes a record with every number 0, and leaves registers and memory. */
 uint32_t korvammel_image_read(const uint8_t *image, size_t image_length, uint32_t *registers, size_t registers_length, uint8_t *memory,
                               size_t memory_length, uint8_t record[KORVAMMEL_RECORD]);
 

@@ -7,8 +7,8 @@
 
 #include "korvammel.h"
 
-enum { START, RUN, WRITE, READ, WORDS, EXPORT, IMPORT, EMPTY, CALLS };
-static const char *const names[CALLS] = {"start", "run", "image_write", "image_read", "words", "hex_export", "hex_import"};
+enum { START, RUN, WRITE, READ, WRITE_OLD, WORDS, EXPORT, IMPORT, EMPTY, CALLS };
+static const char *const names[CALLS] = {"start", "run", "image_write", "image_read", "image_write_old", "words", "hex_export", "hex_import"};
 
 static uint8_t stack[65536];
 static ucontext_t here, there;
@@ -18,7 +18,7 @@ static uint32_t program[16384], registers[KORVAMMEL_REGISTERS];
 static size_t words;
 static uint8_t text[KORVAMMEL_HEX(16384)];
 static size_t length;
-static uint8_t memory[128], record[KORVAMMEL_RECORD], image[KORVAMMEL_IMAGE(128)];
+static uint8_t memory[128], record[KORVAMMEL_RECORD], image[KORVAMMEL_IMAGE(128)], old[KORVAMMEL_OLD_IMAGE(128)];
 
 // Every word of a program read, written again and named.
 static void take_words(void) {
@@ -39,6 +39,7 @@ static void make(void) {
     case RUN: korvammel_run(program, words, registers, KORVAMMEL_REGISTERS, memory, sizeof memory, record, 1000, result); break;
     case WRITE: korvammel_image_write(registers, KORVAMMEL_REGISTERS, memory, sizeof memory, record, image, sizeof image); break;
     case READ: korvammel_image_read(image, sizeof image, registers, KORVAMMEL_REGISTERS, memory, sizeof memory, record); break;
+    case WRITE_OLD: korvammel_image_write_old(registers, KORVAMMEL_REGISTERS, memory, sizeof memory, record, 1, old, sizeof old); break;
     case WORDS: take_words(); break;
     case EXPORT: korvammel_hex_export(program, words, text, sizeof text, &length); break;
     case IMPORT: korvammel_hex_import(text, length, program, 16384, found); break;

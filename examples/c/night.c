@@ -5,8 +5,8 @@
 
 #include "korvammel.h"
 
-#if KORVAMMEL_API != 2
-#error "night.c was written for version 1 of the library"
+#if KORVAMMEL_API != 3
+#error "night.c was written for version 3 of the library"
 #endif
 
 static uint8_t bytes[4 * 16384 + 1]; // one more than the longest program has, so that a longer file is seen
@@ -37,6 +37,12 @@ static size_t words_of(size_t size) {
     return size / 4;
 }
 
+// The turns that a thread has had.
+static unsigned turns_of(int t) {
+    const uint8_t *b = record + KORVAMMEL_TURNS(t);
+    return b[0] | (uint32_t)b[1] << 8 | (uint32_t)b[2] << 16 | (uint32_t)b[3] << 24;
+}
+
 int main(int argc, char **argv) {
     static const char *const endings[] = {"refused", "stopped", "stuck", "spent"};
     static const char *const statuses[] = {"idle", "running", "ended", "trapped", "waiting"};
@@ -56,7 +62,7 @@ int main(int argc, char **argv) {
     for (int t = 0; t < 8; t++) {
         uint8_t status = record[KORVAMMEL_STATUS(t)];
         unsigned address = registers[KORVAMMEL_SCALAR(t, 63)];
-        if (status != KORVAMMEL_IDLE) printf("thread %d %s at %08X\n", t, statuses[status], address);
+        if (status != KORVAMMEL_IDLE) printf("thread %d %s at %08X, %u turns\n", t, statuses[status], address, turns_of(t));
     }
     for (int relay = 64; relay < 77; relay++) putchar(memory[relay] ? '1' : '0');
     putchar('\n');

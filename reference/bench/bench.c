@@ -230,12 +230,14 @@ static void compare_machines(void) {
     for (size_t i = 1; i < side_count; i++) {
         const struct side *other = &sides[i];
         int same = memcmp(ours->registers, other->registers, sizeof ours->registers) == 0 &&
-                   memcmp(ours->memory, other->memory, BYTES) == 0 && ours->bytes[2] == other->record.last &&
-                   ours->bytes[3] == other->record.enabled;
+                   memcmp(ours->memory, other->memory, BYTES) == 0 && ours->bytes[KORVAMMEL_LAST] == other->record.last &&
+                   ours->bytes[KORVAMMEL_ENABLED] == other->record.enabled;
         for (int t = 0; t < 8; t++) {
             const struct rival_thread *thread = &other->record.threads[t];
-            const uint8_t entry[4] = {thread->status, thread->reason, thread->id, thread->count};
-            same = same && memcmp(ours->bytes + 7 + 7 * t, entry, 4) == 0;
+            const uint32_t turns = other->record.turns[t];
+            const uint8_t entry[8] = {thread->status, thread->reason, thread->id, thread->count,
+                                      (uint8_t)turns, (uint8_t)(turns >> 8), (uint8_t)(turns >> 16), (uint8_t)(turns >> 24)};
+            same = same && memcmp(ours->bytes + KORVAMMEL_STATUS(t), entry, sizeof entry) == 0; // TI, behind its mark and its thread
         }
         if (!same) fail("a rival has reached another machine");
     }

@@ -168,6 +168,7 @@ struct operand {
         if (left == 0) goto spent;             \
         left--;                                \
         t = after[t];                          \
+        turns[t]++;                            \
         s = room + 64 * t;                     \
         pc = s[63];                            \
         uint32_t at = pc >> 2 | pc << 30;      \
@@ -302,6 +303,8 @@ enum rival_answer RUN(const uint32_t *program, size_t length, uint32_t *room, ui
     uint64_t address;
     uint32_t shuffled[16];
     vector space_a, space_b;
+    uint32_t turns[8];
+    memcpy(turns, record->turns, sizeof turns);
     // By barrier: who waits, how many, and for how many. The record gets them at the end.
     uint8_t waiting[32] = {0}, arrived[32] = {0}, count[32];
     enum rival_answer answer;
@@ -394,6 +397,7 @@ readcr:
     case 6: s[D] = record->enabled; break;
     case 9: s[D] = pc; break;
     case 14: s[D] = 8; break;
+    case 16: s[D] = turns[t] - 1; break; // before this issue, which is counted already
     default: TRAP(6);
     }
     GO_ON;
@@ -445,6 +449,7 @@ spent:
     answer = RIVAL_SPENT;
 out:
     record->last = (uint8_t)t;
+    memcpy(record->turns, turns, sizeof turns);
     for (int u = 0; u < 8; u++)
         if (running >> u & 1) record->threads[u] = (struct rival_thread){RUNNING, 0, 0, 0};
     for (int id = 0; id < 32; id++)

@@ -230,6 +230,7 @@ static struct outcome do_c(struct machine *m, uint32_t w, uint32_t *s, uint32_t 
         case 6: s[a] = m->record->enabled; return on();
         case 9: s[a] = pc; return on();
         case 14: s[a] = 8; return on();
+        case 16: s[a] = m->record->turns[t]; return on();
         default: return trap(6);
         }
     case 2: return a || b ? trap(3) : (struct outcome){END, 0, 0};
@@ -316,6 +317,7 @@ static void issue(struct machine *m, uint32_t t) {
         else o = trap(3);
     }
     r->last = (uint8_t)t;
+    r->turns[t]++;
     switch (o.next) {
     case ON: s[63] = pc + 4; break;
     case TO: s[63] = o.x; break;

@@ -15,6 +15,7 @@ struct rival_thread {
 struct rival_record {
     uint8_t enabled, last;
     struct rival_thread threads[8];
+    uint32_t turns[8];
 };
 
 // The numbers of include/korvammel.h.

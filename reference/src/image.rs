@@ -1,10 +1,21 @@
-//! The saved image (document 01, "Saved image").
+//! The saved image, in two forms (document 01, "Saved image"; document 02, T-05).
 
-use crate::machine::{memory_allowed, Record, Status, ROOM_WORDS};
+use crate::machine::{memory_allowed, Record, Status, ROOM_WORDS, ZERO};
 
-/// "36,948 + 68 x (memory length / 64)"
-pub fn length(memory: usize) -> usize {
-    36_948 + 68 * (memory / 64)
+/// "TH becomes TI, four bytes longer at its end .. The old form can be written back"
+#[derive(Clone, Copy, PartialEq, Eq, Debug)]
+pub enum Form {
+    Newest,
+    Old,
+}
+
+/// "36,948 + 68 x (memory length / 64)"; "the fixed part is 36,980 bytes"
+pub fn length(form: Form, memory: usize) -> usize {
+    let fixed = match form {
+        Form::Newest => 36_980,
+        Form::Old => 36_948,
+    };
+    fixed + 68 * (memory / 64)
 }
 
 fn fields(status: Status) -> [u8; 4] {
@@ -28,31 +39,48 @@ fn status(fields: [u8; 4]) -> Option<Status> {
     }
 }
 
-/// The record as its HD and TH records.
-pub fn record_bytes(record: &Record) -> Vec<u8> {
+/// The record as its HD and TI records, in the old form TH.
+pub fn record_bytes(form: Form, record: &Record) -> Vec<u8> {
     let mut out = vec![b'H', b'D', record.last, record.enabled];
     for (t, s) in record.threads.iter().enumerate() {
-        out.extend([b'T', b'H', t as u8]);
+        let mark = if form == Form::Old { b'H' } else { b'I' };
+        out.extend([b'T', mark, t as u8]);
         out.extend(fields(*s));
+        if form == Form::Newest {
+            out.extend(record.turns[t].to_le_bytes());
+        }
     }
     out
 }
 
-/// Writes the image into a buffer of exactly its length.
+/// Writes the image in the newest form into a buffer of exactly its length.
 pub fn write(room: &[u32], memory: &[u8], record: &Record, buffer: &mut [u8]) -> Result<(), u8> {
+    write_form(Form::Newest, false, room, memory, record, buffer)
+}
+
+/// "The old form can be written back, with counts 0 unless the caller allows dropping them."
+pub fn write_old(room: &[u32], memory: &[u8], record: &Record, dropping: bool, buffer: &mut [u8]) -> Result<(), u8> {
+    write_form(Form::Old, dropping, room, memory, record, buffer)
+}
+
+fn write_form(form: Form, dropping: bool, room: &[u32], memory: &[u8], record: &Record, buffer: &mut [u8]) -> Result<(), u8> {
     if room.len() != ROOM_WORDS {
         return Err(2);
     }
     if !memory_allowed(memory.len()) {
         return Err(3);
     }
-    if buffer.len() != length(memory.len()) {
+    if buffer.len() != length(form, memory.len()) {
         return Err(9);
     }
     if !record.well_formed() {
         return Err(4);
     }
-    let mut out = record_bytes(record);
+    // "11, old form asked for, a count not 0, dropping not allowed; it comes after 9 and 4."
+    if form == Form::Old && !dropping && record.turns.iter().any(|n| *n != 0) {
+        return Err(11);
+    }
+    let mut out = record_bytes(form, record);
     for t in 0..8 {
         out.extend([b'S', b'R', t as u8]);
         for word in &room[64 * t..64 * (t + 1)] {
@@ -84,7 +112,7 @@ fn cut<'a>(image: &mut &'a [u8], size: usize) -> &'a [u8] {
 }
 
 /// The bodies of the image's records, if every mark and number is in place.
-fn bodies(mut image: &[u8], blocks: usize) -> Option<Vec<&[u8]>> {
+fn bodies(form: Form, mut image: &[u8], blocks: usize) -> Option<Vec<&[u8]>> {
     let mut bodies = vec![];
     let mut next = |head: &[u8], size: usize| {
         let found = cut(&mut image, head.len());
@@ -93,7 +121,10 @@ fn bodies(mut image: &[u8], blocks: usize) -> Option<Vec<&[u8]>> {
     };
     let mut fine = next(b"HD", 2);
     for t in 0..8 {
-        fine &= next(&[b'T', b'H', t], 4);
+        fine &= match form {
+            Form::Newest => next(&[b'T', b'I', t], 8),
+            Form::Old => next(&[b'T', b'H', t], 4),
+        };
     }
     for t in 0..8 {
         fine &= next(&[b'S', b'R', t], 256);
@@ -113,7 +144,12 @@ fn words(bytes: &[u8]) -> impl Iterator<Item = u32> + '_ {
     bytes.chunks(4).map(|b| u32::from_le_bytes([b[0], b[1], b[2], b[3]]))
 }
 
-/// Reads an image into the room and the memory, and gives the record.
+/// "Refusal 9 knows both lengths": the form that has this length, for a memory so long.
+fn form_of(image: usize, memory: usize) -> Option<Form> {
+    [Form::Newest, Form::Old].into_iter().find(|form| image == length(*form, memory))
+}
+
+/// Reads an image of either form into the room and the memory, and gives the record.
 pub fn read(image: &[u8], room: &mut [u32], memory: &mut [u8]) -> Result<Record, u8> {
     if room.len() != ROOM_WORDS {
         return Err(2);
@@ -121,14 +157,14 @@ pub fn read(image: &[u8], room: &mut [u32], memory: &mut [u8]) -> Result<Record,
     if !memory_allowed(memory.len()) {
         return Err(3);
     }
-    if image.len() != length(memory.len()) {
-        return Err(9);
-    }
-    let bodies = bodies(image, memory.len() / 64).ok_or(10)?;
-    let mut record = Record { last: bodies[0][0], enabled: bodies[0][1], threads: [Status::Idle; 8] };
+    let form = form_of(image.len(), memory.len()).ok_or(9)?;
+    let bodies = bodies(form, image, memory.len() / 64).ok_or(10)?;
+    let mut record = Record { last: bodies[0][0], enabled: bodies[0][1], ..ZERO };
     for t in 0..8 {
         let b = bodies[1 + t];
         record.threads[t] = status([b[0], b[1], b[2], b[3]]).ok_or(4)?;
+        // "Old images are read with all counts 0."
+        record.turns[t] = words(&b[4..]).next().unwrap_or(0);
     }
     if !record.well_formed() {
         return Err(4);
@@ -151,38 +187,84 @@ mod tests {
         let mut room = vec![0; ROOM_WORDS];
         let mut record = start(5, &mut room).unwrap();
         record.threads[2] = Status::Waiting { id: 3, count: 2 };
+        // an idle thread has a count too
+        record.turns = [0x1234_5678, 7, 0xFFFF_FFFF, 0, 0, 0, 0, 1];
         for (i, word) in room.iter_mut().enumerate() {
             *word = (i as u32).wrapping_mul(2_654_435_761);
         }
         let memory: Vec<u8> = (0..128).map(|i| i as u8).collect();
-        let mut image = vec![0; length(128)];
+        let mut image = vec![0; length(Form::Newest, 128)];
         write(&room, &memory, &record, &mut image).unwrap();
         (room, memory, record, image)
+    }
+
+    fn read_again(image: &[u8]) -> Result<(Vec<u32>, Vec<u8>, Record), u8> {
+        let (mut room, mut memory) = (vec![1; ROOM_WORDS], vec![1; 128]);
+        match read(image, &mut room, &mut memory) {
+            Ok(record) => Ok((room, memory, record)),
+            Err(number) => {
+                // "A refusal changes no lent buffer"
+                assert!(room.iter().all(|w| *w == 1) && memory.iter().all(|b| *b == 1));
+                Err(number)
+            }
+        }
     }
 
     /// "Writing then reading gives the same machine, and reading then writing an accepted image the same bytes."
     #[test]
     fn both_ways() {
         let (room, memory, record, image) = sample();
-        let (mut room2, mut memory2, mut image2) = (vec![1; ROOM_WORDS], vec![1; 128], vec![1; image.len()]);
-        let record2 = read(&image, &mut room2, &mut memory2).unwrap();
-        assert_eq!((&room, &memory, &record), (&room2, &memory2, &record2));
-        write(&room2, &memory2, &record2, &mut image2).unwrap();
+        assert_eq!(read_again(&image), Ok((room, memory, record)));
+        let (room, memory, record) = read_again(&image).unwrap();
+        let mut image2 = vec![1; image.len()];
+        write(&room, &memory, &record, &mut image2).unwrap();
         assert_eq!(image, image2);
-        assert_eq!(image.len(), 36_948 + 68 * 2);
-        assert_eq!(image[..7], [b'H', b'D', 7, 5, b'T', b'H', 0]);
+        assert_eq!(image.len(), 36_980 + 68 * 2);
+        assert_eq!(image[..15], [b'H', b'D', 7, 5, b'T', b'I', 0, 1, 0, 0, 0, 0x78, 0x56, 0x34, 0x12]);
+    }
+
+    /// "Old images are read with all counts 0. .. dropped counts read back as 0; old to new to old gives the first bytes."
+    #[test]
+    fn old_form() {
+        let (room, memory, record, image) = sample();
+        let mut old = vec![1; length(Form::Old, 128)];
+        assert_eq!(write_old(&room, &memory, &record, false, &mut old), Err(11));
+        assert!(old.iter().all(|b| *b == 1));
+        write_old(&room, &memory, &record, true, &mut old).unwrap();
+        assert_eq!(old.len(), 36_948 + 68 * 2);
+        assert_eq!(old[..12], [b'H', b'D', 7, 5, b'T', b'H', 0, 1, 0, 0, 0, b'T']);
+        let none = Record { turns: [0; 8], ..record };
+        assert_eq!(read_again(&old), Ok((room.clone(), memory.clone(), none)));
+        let mut newest = vec![1; image.len()];
+        write(&room, &memory, &none, &mut newest).unwrap();
+        let (room, memory, record) = read_again(&newest).unwrap();
+        let mut again = vec![1; old.len()];
+        write_old(&room, &memory, &record, false, &mut again).unwrap();
+        assert_eq!(old, again);
+    }
+
+    /// 2, 3, 9, 4, 11.
+    #[test]
+    fn old_refusals() {
+        let (room, memory, record, _) = sample();
+        let bad = Record { last: 8, ..record };
+        let refused = |words: usize, bytes: usize, record: &Record, size: usize| {
+            write_old(&room[..words], &memory[..bytes], record, false, &mut vec![0; size]).unwrap_err()
+        };
+        let size = length(Form::Old, 128);
+        assert_eq!(refused(8703, 127, &bad, 0), 2);
+        assert_eq!(refused(8704, 127, &bad, 0), 3);
+        assert_eq!(refused(8704, 128, &bad, length(Form::Newest, 128)), 9);
+        assert_eq!(refused(8704, 128, &bad, size), 4);
+        assert_eq!(refused(8704, 128, &record, size), 11);
+        assert_eq!(refused(8704, 128, &Record { turns: [0, 0, 0, 0, 0, 0, 0, 1], ..record }, size), 11);
     }
 
     /// "10 over the whole image before any 4", and a refusal leaves both buffers.
     #[test]
     fn refusals() {
         let (_, _, _, image) = sample();
-        let refused = |image: &[u8]| {
-            let (mut room, mut memory) = (vec![1; ROOM_WORDS], vec![1; 128]);
-            let number = read(image, &mut room, &mut memory).unwrap_err();
-            assert!(room.iter().all(|w| *w == 1) && memory.iter().all(|b| *b == 1));
-            number
-        };
+        let refused = |image: &[u8]| read_again(image).unwrap_err();
         let with = |changes: &[(usize, u8)]| {
             let mut damaged = image.clone();
             for (at, byte) in changes {
@@ -196,5 +278,8 @@ mod tests {
         assert_eq!(refused(&with(&[(8, 1)])), 4);
         assert_eq!(refused(&with(&[(3, 0), (image.len() - 68, b'm')])), 10);
         assert_eq!(refused(&with(&[(image.len() - 65, 1)])), 10);
+        // TH in an image as long as the newest form, and TI in one as long as the old
+        assert_eq!(refused(&with(&[(5, b'H')])), 10);
+        assert_eq!(refused(&image[32..]), 10);
     }
 }

@@ -16,10 +16,12 @@ pub struct Record {
     pub enabled: u8,
     pub last: u8,
     pub threads: [Status; 8],
+    /// Document 02, T-05: "Each thread entry gains its issues since start, trapping ones too, wrapping at 2^32."
+    pub turns: [u32; 8],
 }
 
 /// "a record with every number 0"
-pub const ZERO: Record = Record { enabled: 0, last: 0, threads: [Status::Idle; 8] };
+pub const ZERO: Record = Record { enabled: 0, last: 0, threads: [Status::Idle; 8], turns: [0; 8] };
 
 impl Record {
     fn waiting_at(&self, id: u8) -> usize {

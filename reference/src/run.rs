@@ -33,6 +33,8 @@ struct Issue<'a> {
     room: &'a mut [u32],
     memory: &'a mut [u8],
     enabled: u8,
+    /// The thread's turns before this issue.
+    turns: u32,
     t: usize,
     pc: u32,
     moved: Option<Moved>,
@@ -212,6 +214,8 @@ impl Issue<'_> {
                     6 => self.enabled as u32,
                     9 => self.pc,
                     14 => 8,
+                    // document 02, T-05: "readcr 16 gives the value before its own issue"
+                    16 => self.turns,
                     _ => return Err(6),
                 };
                 self.set_s(first, value);
@@ -310,7 +314,8 @@ fn issue(program: &[u32], room: &mut [u32], memory: &mut [u8], record: &mut Reco
             Reading::Undefined => Err(3),
             Reading::NotFitted => Err(6),
             Reading::Defined(instruction) => {
-                let mut view = Issue { words: program.len(), room, memory, enabled: record.enabled, t, pc, moved };
+                let turns = record.turns[t];
+                let mut view = Issue { words: program.len(), room, memory, enabled: record.enabled, turns, t, pc, moved };
                 let next = view.execute(instruction);
                 moved = view.moved;
                 next
@@ -318,6 +323,7 @@ fn issue(program: &[u32], room: &mut [u32], memory: &mut [u8], record: &mut Reco
         }
     };
     record.last = t as u8;
+    record.turns[t] = record.turns[t].wrapping_add(1);
     match next {
         Err(reason) => record.threads[t] = Status::Trapped(reason),
         Ok(Next::On) => room[64 * t + 63] = pc + 4,
@@ -495,6 +501,21 @@ mod tests {
         assert_eq!(answer, (Ok(Ending::Spent), 7));
         assert_eq!(threads, [0, 1, 2, 0, 1, 2, 0]);
         assert_eq!(run(&[0x7000_0000], &mut room, &mut memory, &mut record, 0), (Ok(Ending::Spent), 0));
+    }
+
+    /// Document 02, T-05: "its issues since start, trapping ones too, wrapping at 2^32. readcr 16 gives the value before its own issue."
+    /// Both threads: movei s2,16; readcr s1,s2; an undefined word.
+    #[test]
+    fn turns() {
+        let (mut room, mut memory) = (room(), vec![0; 64]);
+        let mut record = start(3, &mut room).unwrap();
+        assert_eq!(record.turns, [0; 8]);
+        record.turns[1] = 0xFFFF_FFFF;
+        record.turns[2] = 9;
+        assert_eq!(run(&[0x62080040, 0x79042000, 0], &mut room, &mut memory, &mut record, 5), (Ok(Ending::Spent), 5));
+        assert_eq!(run(&[0x62080040, 0x79042000, 0], &mut room, &mut memory, &mut record, 5), (Ok(Ending::Stopped), 1));
+        assert_eq!((room[1], room[64 + 1]), (1, 0));
+        assert_eq!(record.turns, [3, 2, 9, 0, 0, 0, 0, 0]);
     }
 
     /// "0x62040004, 0x78001000, 0x7A000000: budget 100: mask 3 stops after 6; mask 1 is stuck after 2."

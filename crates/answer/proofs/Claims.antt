@@ -9,7 +9,7 @@ first-is-given = refl
 
 pub rows-hold : RowsHold
 unfolding RowsHold sizesNumber firstThatApplies
-rows-hold = (refl, (refl, (refl, (refl, (refl, (refl, (refl, (refl, (refl, (refl, (refl, (refl, tt))))))))))))
+rows-hold = (refl, (refl, (refl, (refl, (refl, (refl, (refl, (refl, (refl, (refl, (refl, (refl, (refl, (refl, (refl, (refl, tt))))))))))))))))
 
 pub bounds : Bounds
 bounds = record {

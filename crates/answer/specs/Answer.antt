@@ -39,7 +39,7 @@ undefined = 7
 abbrev pub not-fitted : ℕ
 not-fitted = 8
 
--- "9: image length differs from 36,948 + 68 x (memory length / 64)"
+-- "9: image length differs from 36,948 + 68 x (memory length / 64)"; 02, T-05: "Refusal 9 knows both lengths"
 abbrev pub bad-length : ℕ
 bad-length = 9
 
@@ -47,7 +47,11 @@ bad-length = 9
 abbrev pub bad-image : ℕ
 bad-image = 10
 
--- Document 02 adds to the table. T-06: "15 bad record or checksum"
+-- Document 02 adds to the table. T-05: "11, old form asked for, a count not 0, dropping not allowed"
+abbrev pub counts-lost : ℕ
+counts-lost = 11
+
+-- T-06: "15 bad record or checksum"
 abbrev pub bad-hex-record : ℕ
 bad-hex-record = 15
 

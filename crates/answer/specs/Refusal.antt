@@ -38,9 +38,13 @@ badMemory bytes = ltb bytes blockBytes || ltb memoryBytes bytes || not (eqb (byt
 abbrev pub badMask : ℕ → Bool
 badMask mask = eqb mask 0 || ltb 255 mask
 
--- "36,948 + 68 x (memory length / 64)": a fixed part, and a record for each block of memory
+-- "36,948 + 68 x (memory length / 64)": a fixed part, and a record for each block of memory; 02, T-05: "the fixed part is 36,980 bytes",
+-- and that of the old form stays
 abbrev pub fixedPart : ℕ
-fixedPart = 36948
+fixedPart = 36980
+
+abbrev pub oldFixedPart : ℕ
+oldFixedPart = 36948
 
 abbrev pub blockRecord : ℕ
 blockRecord = 68
@@ -49,7 +53,7 @@ blockRecord = 68
 abbrev pub imageLength : ℕ → ℕ → ℕ
 imageLength fixed bytes = fixed + blockRecord * (bytes / blockBytes)
 
--- "image length differs from 36,948 + 68 x (memory length / 64)"
+-- "image length differs from 36,948 + 68 x (memory length / 64)", by the fixed part of its form
 abbrev pub badLength : ℕ → ℕ → ℕ → Bool
 badLength fixed bytes size = not (eqb size (imageLength fixed bytes))
 

@@ -5,6 +5,7 @@ pub use refusal::BLOCK_BYTES;
 pub use refusal::BLOCK_RECORD;
 pub use refusal::FIXED_PART;
 pub use refusal::MEMORY_BYTES;
+pub use refusal::OLD_FIXED_PART;
 pub use refusal::PROGRAM_WORDS;
 pub use refusal::REGISTER_WORDS;
 pub use refusal::Verdict;

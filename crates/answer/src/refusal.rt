@@ -77,8 +77,10 @@ pub fn lengths_verdict(words: usize, registers: usize, bytes: usize) -> Verdict
     Verdict::Accepted
 }
 
-// The fixed part of an image's length, and the bytes of the record of a block of memory.
-pub const FIXED_PART: u32 = 36948;
+// The fixed part of an image's length, that of the old form, and the bytes of the record of a block of memory.
+pub const FIXED_PART: u32 = 36980;
+
+pub const OLD_FIXED_PART: u32 = 36948;
 
 pub const BLOCK_RECORD: usize = 68;
 

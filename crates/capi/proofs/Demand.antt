@@ -1,5 +1,5 @@
 -- Demand 3 holds of a list of calls of korvammel_run: read as a board reads it, it is a list of runs.
-use Prim.Native.Nat.{ℕ}
+use Prim.Native.Nat.{ℕ, _<_, _^_}
 use mathlib.Core.Bool.{Bool, true, false, not, cond}
 use mathlib.Core.List.{List, [], _∷_, map}
 use mathlib.Core.Option.{Option, none, some}
@@ -10,11 +10,15 @@ use lib.ListN.{length}
 use Rattle.answer.specs.Answer.{given, refused}
 use Rattle.answer.specs.Refusal.{badProgram, badRegisters, badMemory, firstThatApplies, refusedOr}
 use Rattle.image.proofs.Claims.{record-again}
+use Rattle.image.proofs.Restored.{counts-bound}
 use Rattle.image.proofs.Openings.{opening-machine, opening-well-formed}
 use Rattle.answer.proofs.Checks.{first-after}
 use Rattle.image.specs.Image.{machineIn}
 use Rattle.image.specs.Opening.{noBlocks, recordBytes, openingNumber, openingChecks, readOpening}
-use Rattle.interpreter.proofs.Claims.{stays-well-formed, demand}
+use Rattle.interpreter.proofs.Claims.{stays-well-formed, turns-counted, demand}
+use Rattle.image.specs.Claims.{Words}
+use Rattle.machine.proofs.Claims.{counts-kept}
+use Rattle.machine.specs.Machine.{turnsAt, turnsOf}
 use Rattle.interpreter.proofs.Refusals.{run-refused}
 use Rattle.interpreter.specs.Answer.{Ending, stopped, stuck, spent}
 use Rattle.interpreter.specs.Demand.{Session}
@@ -31,13 +35,13 @@ use Rattle.capi.specs.Refusal.{runNumber}
 use Rattle.capi.specs.Runs.{ran, done, runCall}
 
 -- a record's bytes, written of a well-formed record, are accepted and hold it
-module _ (m : Machine) (w : wellFormed m ≡ true) where
+module _ (m : Machine) (w : wellFormed m ≡ true) (counts : Words (turnsOf m)) where
   written-accepted : openingNumber (recordBytes m) ≡ none
   unfolding readOpening
-  written-accepted = ap (λ o. o .number) (record-again m w)
+  written-accepted = ap (λ o. o .number) (record-again m w counts)
 
   written-held : machineIn noBlocks (recordBytes m) ≡ m
-  written-held = sym (opening-machine (recordBytes m) written-accepted) ∙ ap (λ o. o .machine) (record-again m w)
+  written-held = sym (opening-machine (recordBytes m) written-accepted) ∙ ap (λ o. o .machine) (record-again m w counts)
 
 -- an ending is read as it was written
 ending-read : (e : Ending) → endingIn (endingOf (given e)) ≡ e
@@ -46,10 +50,10 @@ ending-read stuck = refl
 ending-read spent = refl
 
 -- what a call tells of a run that was made is that run's outcome
-told-done : (o : Outcome) (e : Ending) → o .answer ≡ given e → wellFormed (o .left .machine) ≡ true → told (done o) ≡ o
-told-done o e h w =
+told-done : (o : Outcome) (e : Ending) → o .answer ≡ given e → wellFormed (o .left .machine) ≡ true → Words (turnsOf (o .left .machine)) → told (done o) ≡ o
+told-done o e h w counts =
     let a : given (endingIn (endingOf (o .answer))) ≡ o .answer = ap (λ x. given (endingIn (endingOf x))) h ∙ ap given (ending-read e) ∙ sym h in
-    let m = written-held (o .left .machine) w in
+    let m = written-held (o .left .machine) w counts in
     (λ i. record { answer = a i; issues = o .issues; left = state (m i) (o .left .registers) (o .left .memory) })
 
 -- the outcome of a run
@@ -60,6 +64,14 @@ run-answer p b s h = rw h
 run-well-formed : (p : List ℕ) (b : ℕ) (s : State) → wellFormed (s .machine) ≡ true → wellFormed (run p b s .left .machine) ≡ true
 unfolding run
 run-well-formed p b s w = stays-well-formed p b s w
+
+-- a run's counts are words, as those that it began with
+counts-left : (p : List ℕ) (b : ℕ) (s : State) → Words (turnsOf (s .machine)) → Words (turnsOf (run p b s .left .machine))
+counts-left p b s h t =
+    let m = run p b s .left .machine in
+    let before : turnsAt (s .machine) t < 2 ^ 32 = rw (← counts-kept .at (s .machine) t) (h t) in
+    let after = turns-counted (record { program = p; budget = b; outcome = run p b s } ∷ []) s (refl, tt) t before in
+    rw (counts-kept .at m t, after) (omega arith)
 
 or-none : (o : Option ℕ) → refusedOr o some none ≡ o
 or-none none = refl
@@ -76,7 +88,7 @@ not-zero words registers bytes n = go (badProgram words) (badRegisters registers
     go false false true e = let f : 3 ≡ n = cc in subst (λ k. eqb k 0 ≡ false) f refl
     go false false false e = absurd (let z : _≡_ {A = ℕ} 0 1 = cc in omega arith)
 
-module _ (p : List ℕ) (b : ℕ) (registers memory opening : List ℕ) (h : openingNumber opening ≡ none) where
+module _ (p : List ℕ) (b : ℕ) (registers memory opening : List ℕ) (h : openingNumber opening ≡ none) (counts : Words (turnsOf (machineIn noBlocks opening))) where
   abbrev held : State
   held = heldIn registers memory opening
 
@@ -104,7 +116,7 @@ module _ (p : List ℕ) (b : ℕ) (registers memory opening : List ℕ) (h : ope
       go : (o : Option ℕ) → lengths ≡ o → told (runCall p b registers memory opening) ≡ run p b held
       go none e =
           ap (λ o. told (refusedOr o (λ n. ran n (0 ∷ 0 ∷ []) registers memory opening) (done (run p b held)))) (call-number ∙ e)
-          ∙ told-done (run p b held) (endingAt (reached p b held)) (run-answer p b held (held-number ∙ e)) (run-well-formed p b held held-well-formed)
+          ∙ told-done (run p b held) (endingAt (reached p b held)) (run-answer p b held (held-number ∙ e)) (run-well-formed p b held held-well-formed) (counts-left p b held counts)
       go (some n) e =
           ap (λ o. told (refusedOr o (λ k. ran k (0 ∷ 0 ∷ []) registers memory opening) (done (run p b held)))) (call-number ∙ e)
           ∙ ap (λ x. record { answer = cond x (given spent) (refused n); issues = 0; left = held }) (not-zero _ _ _ n e)
@@ -117,18 +129,30 @@ module _ (p : List ℕ) (b : ℕ) (registers memory opening : List ℕ) (h : ope
     where
       go : (o : Option ℕ) → lengths ≡ o → openingNumber (runCall p b registers memory opening .opening) ≡ none
       go none e =
-          rw (call-number ∙ e) (written-accepted (run p b held .left .machine) (run-well-formed p b held held-well-formed))
+          rw (call-number ∙ e) (written-accepted (run p b held .left .machine) (run-well-formed p b held held-well-formed) (counts-left p b held counts))
       go (some n) e = rw (call-number ∙ e) h
 
-session : (calls : List RunCall) (registers memory opening : List ℕ) → openingNumber opening ≡ none → RunCalls calls registers memory opening
-    → Session (map asCall calls) (heldIn registers memory opening)
-session [] registers memory opening h k = tt
-session (c ∷ cs) registers memory opening h k = (
-  ap told (k .0) ∙ told-run (c .program) (c .budget) registers memory opening h,
+  -- and hold counts that are words
+  left-counts : Words (turnsOf (machineIn noBlocks (runCall p b registers memory opening .opening)))
+  unfolding runCall
+  left-counts = go lengths refl
+    where
+      go : (o : Option ℕ) → lengths ≡ o → Words (turnsOf (machineIn noBlocks (runCall p b registers memory opening .opening)))
+      go none e t =
+          let m = run p b held .left .machine in
+          rw (call-number ∙ e, written-held m (run-well-formed p b held held-well-formed) (counts-left p b held counts)) (counts-left p b held counts t)
+      go (some n) e t = rw (call-number ∙ e) (counts t)
+
+session : (calls : List RunCall) (registers memory opening : List ℕ) → openingNumber opening ≡ none → Words (turnsOf (machineIn noBlocks opening))
+    → RunCalls calls registers memory opening → Session (map asCall calls) (heldIn registers memory opening)
+session [] registers memory opening h counts k = tt
+session (c ∷ cs) registers memory opening h counts k = (
+  ap told (k .0) ∙ told-run (c .program) (c .budget) registers memory opening h counts,
   session cs (c .ran .registers) (c .ran .memory) (c .ran .opening)
-      (ap (λ r. openingNumber (r .opening)) (k .0) ∙ left-accepted (c .program) (c .budget) registers memory opening h) (k .1),
+      (ap (λ r. openingNumber (r .opening)) (k .0) ∙ left-accepted (c .program) (c .budget) registers memory opening h counts)
+      (λ t. rw (ap (λ r. r .opening) (k .0)) (left-counts (c .program) (c .budget) registers memory opening h counts t)) (k .1),
 )
 
 pub board-demand : BoardDemandHolds
-board-demand calls registers memory opening h k =
-    demand (map asCall calls) (heldIn registers memory opening) (opening-well-formed opening h) (session calls registers memory opening h k)
+board-demand calls registers memory opening bytes h k =
+    demand (map asCall calls) (heldIn registers memory opening) (opening-well-formed opening h) (session calls registers memory opening h (counts-bound noBlocks opening bytes) k)

@@ -1,4 +1,5 @@
 -- The laws that several proofs cite.
 mod Handed
 mod Verdicts
+mod Writing
 pub mod Demand

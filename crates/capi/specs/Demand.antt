@@ -7,6 +7,7 @@ use mathlib.Core.Path.{_≡_}
 use lib.Dec.{eqb}
 use lib.ListN.{getD}
 use Rattle.answer.specs.Answer.{given, refused}
+use Rattle.image.specs.Claims.{Bytes}
 use Rattle.image.specs.Image.{machineIn}
 use Rattle.image.specs.Opening.{noBlocks, openingNumber}
 use Rattle.interpreter.specs.Answer.{Ending, stopped, stuck, spent}
@@ -48,8 +49,8 @@ told r =
 abbrev pub asCall : RunCall → Call
 asCall c = record { program = c .program; budget = c .budget; outcome = told (c .ran) }
 
--- Whatever the register file and memory, and for every record whose bytes are accepted, demand 3 holds of the list.
+-- Whatever the register file and memory, and for every record whose bytes (bytes by their type) are accepted, demand 3 holds of the list.
 abbrev pub BoardDemandHolds : Type 0
-BoardDemandHolds = (calls : List RunCall) (registers memory opening : List ℕ) → openingNumber opening ≡ none
+BoardDemandHolds = (calls : List RunCall) (registers memory opening : List ℕ) → Bytes opening → openingNumber opening ≡ none
     → RunCalls calls registers memory opening
     → Demand (map asCall calls) (heldIn registers memory opening) (enabledThreads (machineIn noBlocks opening))

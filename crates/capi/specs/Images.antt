@@ -1,8 +1,12 @@
 -- The saved image written and read, with the machine record as bytes.
 use Prim.Native.Nat.{ℕ}
+use mathlib.Core.Bool.{Bool, false, not}
 use mathlib.Core.List.{List}
+use lib.Dec.{eqb}
 use Rattle.answer.specs.Refusal.{refusedOr}
 use Rattle.machine.specs.State.{state}
+use Rattle.image_layout.specs.declared.layout.Form.{Form}
+use Rattle.image_layout.specs.declared.layout.Form.the-variants.{Newest, Old}
 use Rattle.image.specs.Calls.{ReadResult, read}
 use Rattle.image.specs.Image.{image, machineIn}
 use Rattle.image.specs.Opening.{noBlocks, recordBytes}
@@ -10,12 +14,19 @@ use Rattle.answer.specs.Left.{Left, left}
 use Rattle.capi.specs.Answer.{numberOf}
 use Rattle.capi.specs.Refusal.{writeNumber}
 
--- the buffer that the writing of an image leaves
-unfoldable pub writeCall : List ℕ → List ℕ → List ℕ → List ℕ → Left (List ℕ)
-writeCall registers memory opening buffer =
-    refusedOr (writeNumber registers memory opening buffer)
+-- the buffer that the writing of an image in a form leaves
+unfoldable pub writeAs : Form → Bool → List ℕ → List ℕ → List ℕ → List ℕ → Left (List ℕ)
+writeAs f dropping registers memory opening buffer =
+    refusedOr (writeNumber f dropping registers memory opening buffer)
     (λ number. left number buffer)
-    (left 0 (image (state (machineIn noBlocks opening) registers memory)))
+    (left 0 (image f (state (machineIn noBlocks opening) registers memory)))
+
+abbrev pub writeCall : List ℕ → List ℕ → List ℕ → List ℕ → Left (List ℕ)
+writeCall registers memory opening buffer = writeAs Newest false registers memory opening buffer
+
+-- any number but 0 allows dropping the counts
+abbrev pub writeOldCall : List ℕ → List ℕ → List ℕ → ℕ → List ℕ → Left (List ℕ)
+writeOldCall registers memory opening drop buffer = writeAs Old (not (eqb drop 0)) registers memory opening buffer
 
 -- what the reading of an image answers and leaves
 pub record Restored : Type 0 where

@@ -6,5 +6,6 @@ mod runs;
 
 pub use images::korvammel_image_read;
 pub use images::korvammel_image_write;
+pub use images::korvammel_image_write_old;
 pub use runs::korvammel_run;
 pub use runs::korvammel_start;

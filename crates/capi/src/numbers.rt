@@ -1,9 +1,10 @@
 // Answers as the numbers that the calls give back: 0, or a number of document 01's table.
 ghost use mathlib.Core.Path.{_≡_};
-ghost use Rattle.image.specs.Answer.{readAnswered};
+ghost use Rattle.image.specs.Answer.{writeAnswered, readAnswered};
 ghost use Rattle.interpreter.specs.Answer.{startAnswered, answered};
 ghost use Rattle.capi.specs.Answer.{numberOf, endingOf};
 use image::ReadAnswer;
+use image::WriteAnswer;
 use interpreter::RunAnswer;
 use interpreter::StartAnswer;
 
@@ -19,6 +20,15 @@ pub fn start_number(answer: StartAnswer) -> u32
     match answer {
         StartAnswer::Started => 0,
         StartAnswer::Refused(number) => wide(number),
+    }
+}
+
+pub fn write_number(answer: WriteAnswer) -> u32
+    ensures { λ r. ⌜ r ≡ numberOf (writeAnswered answer) ⌝ }
+{
+    match answer {
+        WriteAnswer::Written => 0,
+        WriteAnswer::Refused(number) => wide(number),
     }
 }
 

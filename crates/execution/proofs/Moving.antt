@@ -60,9 +60,9 @@ reads-movei w flag byte low f allowed =
     is-Movei reads w (format-of w 2 byte (omega arith)) ∙ rw (opcode-of w 2 byte (omega arith), finds-Movei Whole, f, low) (accept _ _ (refl, (allowed, tt)))
 
 -- the registers after it
-module _ (p : List ℕ) (s : State) (t w : ℕ) (h : NextIsMovei p s t w) (flag d n : ℕ) where
+module _ (p : List ℕ) (s : State) (t turns w : ℕ) (h : NextIsMovei p s t w) (flag d n : ℕ) where
   after : read w ≡ given (Movei Whole flag d n) →
-      perform p s t .registers ≡ withProgramCounter (moveImmediate (s .registers) t Whole (eqb flag 1) d n) t (programCounter (s .registers) t + 4)
+      perform p s t turns .registers ≡ withProgramCounter (moveImmediate (s .registers) t Whole (eqb flag 1) d n) t (programCounter (s .registers) t + 4)
   unfolding perform executeWord
   after e = rw (h .in-program, h .word, e)
 
@@ -110,13 +110,13 @@ module _ (regs : List ℕ) (t : ℕ) (size : length regs ≡ registerWords) (thr
 pub movei-extends : MoveiExtends
 unfolding moveImmediate
 movei-extends = record {
-  scalars = λ p s t w h f l.
+  scalars = λ p s t turns w h f l.
       let free : not (eqb (bits w 23 18) 63) ≡ true = rw (ne-eqb (bits w 23 18) 63 (λ e. omega arith)) in
-      ap (λ r. scalar r t (bits w 23 18)) (after p s t w h 0 (bits w 23 18) (number w) (reads-movei w 0 (h .format-and-opcode) (h .bit0) f free))
+      ap (λ r. scalar r t (bits w 23 18)) (after p s t turns w h 0 (bits w 23 18) (number w) (reads-movei w 0 (h .format-and-opcode) (h .bit0) f free))
       ∙ scalar-after (s .registers) t (h .regs) (h .thread) (bits w 23 18) (number w) (programCounter (s .registers) t) l
       ∙ extends w;
-  lanes = λ p s t w j h f m on.
-      ap (λ r. getD r (laneIndex t (bits w 23 18) j) 0) (after p s t w h 1 (bits w 23 18) (number w) (reads-movei w 1 (h .format-and-opcode) (h .bit0) f refl))
+  lanes = λ p s t turns w j h f m on.
+      ap (λ r. getD r (laneIndex t (bits w 23 18) j) 0) (after p s t turns w h 1 (bits w 23 18) (number w) (reads-movei w 1 (h .format-and-opcode) (h .bit0) f refl))
       ∙ lane-after (s .registers) t (h .regs) (h .thread) (bits w 23 18) (number w) (programCounter (s .registers) t) j (omega arith) m on
       ∙ extends w;
 }

@@ -10,6 +10,7 @@ use Rattle.execution.specs.Registers.{scalar, withScalar}
 use Rattle.execution.specs.Types.{Context, ControlOp, Barrier, Readcr, End, Ends, ReachesBarrier, ControlValue, Known, Unknown}
 
 -- "0 and 1 give 0, 2 and 3 the thread number, 6 the enabled mask, 9 s63, 14 gives 8; any other number traps with 6."
+-- "Service staff want KERNEL_WORK, control register 16. .. readcr 16 gives the value before its own issue." (02, T-05)
 unfoldable pub controlRegister : Context → ℕ → Option ℕ
 controlRegister c number =
     cond (eqb number 0) (some 0)
@@ -19,7 +20,8 @@ controlRegister c number =
     (cond (eqb number 6) (some (c .enabled))
     (cond (eqb number 9) (some (c .pc))
     (cond (eqb number 14) (some 8)
-    none))))))
+    (cond (eqb number 16) (some (c .turns))
+    none)))))))
 
 -- the cases of the code's answer
 abbrev pub controlValue : ControlValue → Option ℕ

@@ -24,13 +24,14 @@ executed e r m = record { effect = e; registers = r; memory = m }
 abbrev pub beside : Step → List ℕ → Executed
 beside s memory = executed (s .effect) (s .registers) memory
 
--- "A trap changes only that entry's status and "last"."
+-- "A trap changes only that entry's status and "last"", and its count (02, T-05)
 abbrev pub trapped : ℕ → List ℕ → Step
 trapped reason regs = step (Traps reason) regs
 
--- what an issue is told: its thread, the word's own address, the enabled mask, and how many words the program has
-abbrev pub context : ℕ → ℕ → ℕ → ℕ → Context
-context t pc enabled words = record { thread = t; pc = pc; enabled = enabled; words = words }
+-- what an issue is told: its thread, the word's own address, the enabled mask, how many words the program has, and how many turns the
+-- thread has had before it
+abbrev pub context : ℕ → ℕ → ℕ → ℕ → ℕ → Context
+context t pc enabled words turns = record { thread = t; pc = pc; enabled = enabled; words = words; turns = turns }
 
 -- "Otherwise s63 grows by 4 unless a jump says more."
 abbrev pub advanced : Context → List ℕ → List ℕ

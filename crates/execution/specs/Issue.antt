@@ -70,8 +70,8 @@ pub record Settles (m : Machine) (c : Context) (regs : List ℕ) (e : Effect) (r
   pub told : r .changed ≡ setsStatus e
 
 -- "The word is at the thread's s63."
-abbrev pub contextOf : List ℕ → State → ℕ → Context
-contextOf p s t = context t (programCounter (s .registers) t) (s .machine .enabled) (length p)
+abbrev pub contextOf : List ℕ → State → ℕ → ℕ → Context
+contextOf p s t turns = context t (programCounter (s .registers) t) (s .machine .enabled) (length p) turns
 
 abbrev pub executeAt : List ℕ → State → Context → Executed
 executeAt p s c = executeWord c (s .registers) (s .memory) (getD p (c .pc / 4) 0)
@@ -83,24 +83,24 @@ performAt p s c =
     (settled (s .machine) c (executeAt p s c))
     (state (trap (s .machine) (c .thread) outside-program) (s .registers) (s .memory))
 
--- one issue of a thread that is "last" already
-unfoldable pub perform : List ℕ → State → ℕ → State
-perform p s t = performAt p s (contextOf p s t)
+-- one issue of a thread that is "last" already and has had so many turns; this one is counted by `issued` (interpreter, Choosing)
+unfoldable pub perform : List ℕ → State → ℕ → ℕ → State
+perform p s t turns = performAt p s (contextOf p s t turns)
 
 -- whether it sets a status
 abbrev pub performSetsStatusAt : List ℕ → State → Context → Bool
 performSetsStatusAt p s c = cond (inProgram (c .words) (c .pc)) (setsStatus (executeAt p s c .effect)) true
 
-unfoldable pub performSetsStatus : List ℕ → State → ℕ → Bool
-performSetsStatus p s t = performSetsStatusAt p s (contextOf p s t)
+unfoldable pub performSetsStatus : List ℕ → State → ℕ → ℕ → Bool
+performSetsStatus p s t turns = performSetsStatusAt p s (contextOf p s t turns)
 
 -- whether the lengths and the thread are such as a run that is not refused comes to
 abbrev pub fits : ℕ → ℕ → ℕ → Bool
 fits words regs t = leb words programWords && eqb regs registerWords && ltb t 8
 
 -- the same for any lengths and any thread number: elsewhere nothing changes
-unfoldable pub issue : List ℕ → State → ℕ → State
-issue p s t = cond (fits (length p) (length (s .registers)) t) (perform p s t) s
+unfoldable pub issue : List ℕ → State → ℕ → ℕ → State
+issue p s t turns = cond (fits (length p) (length (s .registers)) t) (perform p s t turns) s
 
-unfoldable pub issueSetsStatus : List ℕ → State → ℕ → Bool
-issueSetsStatus p s t = cond (fits (length p) (length (s .registers)) t) (performSetsStatus p s t) false
+unfoldable pub issueSetsStatus : List ℕ → State → ℕ → ℕ → Bool
+issueSetsStatus p s t turns = cond (fits (length p) (length (s .registers)) t) (performSetsStatus p s t turns) false

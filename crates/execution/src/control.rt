@@ -27,6 +27,7 @@ fn control_register(context: Context, number: u32) -> ControlValue
         6 => ControlValue::Known(context.enabled as u32),
         9 => ControlValue::Known(context.pc),
         14 => ControlValue::Known(8),
+        16 => ControlValue::Known(context.turns),
         _ => ControlValue::Unknown,
     }
 }

@@ -83,13 +83,14 @@ fn perform(
     memory: &mut [u8],
     machine: Machine,
     t: usize,
+    turns: u32,
 ) -> Issued
     requires { ⌜ InRegisters (now registers) t × (length (now program) ≤ programWords) ⌝ }
     ensures { λ r. ⌜
         (state (r .machine) (now (registers .exit)) (now (memory .exit))
-        ≡ perform (now (program .entry)) (state machine (now (registers .entry)) (now (memory .entry))) t)
+        ≡ perform (now (program .entry)) (state machine (now (registers .entry)) (now (memory .entry))) t turns)
         × (r .changed
-        ≡ performSetsStatus (now (program .entry)) (state machine (now (registers .entry)) (now (memory .entry))) t)
+        ≡ performSetsStatus (now (program .entry)) (state machine (now (registers .entry)) (now (memory .entry))) t turns)
         ⌝ }
 {
     let words = program.len();
@@ -106,28 +107,31 @@ fn perform(
         pc,
         enabled: machine.enabled,
         words,
+        turns,
     };
     let effect = execute::word(context, registers, memory, w);
     settle(context, registers, machine, effect)
 }
 
-// The same, for any lengths and any thread number.
+// The same, for any lengths and any thread number: it neither makes the thread "last" nor counts its turn, and is told how many the
+// thread has had before, whatever counts the record holds.
 pub fn issue(
     program: &[u32],
     registers: &mut [u32],
     memory: &mut [u8],
     machine: Machine,
     thread: usize,
+    turns: u32,
 ) -> Issued
     ensures { λ r. ⌜
         (state (r .machine) (now (registers .exit)) (now (memory .exit))
-        ≡ issue (now (program .entry)) (state machine (now (registers .entry)) (now (memory .entry))) thread)
+        ≡ issue (now (program .entry)) (state machine (now (registers .entry)) (now (memory .entry))) thread turns)
         × (r .changed
-        ≡ issueSetsStatus (now (program .entry)) (state machine (now (registers .entry)) (now (memory .entry))) thread)
+        ≡ issueSetsStatus (now (program .entry)) (state machine (now (registers .entry)) (now (memory .entry))) thread turns)
         ⌝ }
 {
     if fits(program.len(), registers.len(), thread) {
-        return perform(program, registers, memory, machine, thread);
+        return perform(program, registers, memory, machine, thread, turns);
     }
     Issued {
         machine,

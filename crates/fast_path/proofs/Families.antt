@@ -90,19 +90,19 @@ module _ (t : ℕ) (regs : List ℕ) (w : ℕ) where
 
   -- a word of R or I on scalars alone: register d gets what the operation makes of operand a and the word y
   abbrev Operates : Operation → ℕ → Type 0
-  Operates op y = (memory : List ℕ) (pc enabled words : ℕ) →
-      executeWord (context t pc enabled words) regs memory w ≡
-      beside (next (context t pc enabled words) (operate regs t op false (bits w 23 18) (Scalar operandA) (Scalar y))) memory
+  Operates op y = (memory : List ℕ) (pc enabled words turns : ℕ) →
+      executeWord (context t pc enabled words turns) regs memory w ≡
+      beside (next (context t pc enabled words turns) (operate regs t op false (bits w 23 18) (Scalar operandA) (Scalar y))) memory
 
   operates-R : (op : Operation) → HasOpcode w 0x00 64 (rowR op .opcode) → w % 64 ≡ 0 → allowsR op 0 (bits w 23 18) (bits w 11 6) ≡ true →
       Operates op operandB
   unfolding executeWord operateR
-  operates-R op h low allowed memory pc enabled words = rw (plain-R w op h low allowed)
+  operates-R op h low allowed memory pc enabled words turns = rw (plain-R w op h low allowed)
 
   operates-I : (op : Operation) → HasOpcode w 0x40 32 (rowR op .opcode) → w % 8 ≡ 0 → allowsI op 0 (bits w 23 18) ≡ true →
       Operates op immediate
   unfolding executeWord operateI
-  operates-I op h low allowed memory pc enabled words = rw (plain-I w op h low allowed)
+  operates-I op h low allowed memory pc enabled words turns = rw (plain-I w op h low allowed)
 
   writes-binary : (op : BinaryOp) (y : ℕ) → Operates (Binary op) y → ActsAnywhere t w regs (Write (binary op operandA y))
   unfolding binaryInto
@@ -147,41 +147,41 @@ module _ (t : ℕ) (regs : List ℕ) (w : ℕ) where
   pub moves : (op : MoveiOp) → HasOpcode w 0x60 8 (rowMovei op .opcode) → w % 4 ≡ 0 →
       ActsAnywhere t w regs (Write (replaced op (scalar regs t (bits w 23 18)) (numberMovei op (bits w 17 2))))
   unfolding executeWord moveImmediate
-  moves op h low memory pc enabled words = rw (plain-Movei w op h low)
+  moves op h low memory pc enabled words turns = rw (plain-Movei w op h low)
 
   pub jumps : (op : JumpOp) → HasOpcode w 0x70 8 (rowJ op .opcode) → allowsJ op (bits w 23 18) offset ≡ true →
-      (memory : List ℕ) (pc enabled words : ℕ) →
-      executeWord (context t pc enabled words) regs memory w ≡ beside (jump (context t pc enabled words) regs op (bits w 23 18) offset) memory
+      (memory : List ℕ) (pc enabled words turns : ℕ) →
+      executeWord (context t pc enabled words turns) regs memory w ≡ beside (jump (context t pc enabled words turns) regs op (bits w 23 18) offset) memory
   unfolding executeWord
-  jumps op h allowed memory pc enabled words = rw (plain-J w op h allowed)
+  jumps op h allowed memory pc enabled words turns = rw (plain-J w op h allowed)
 
   -- a branch, by its test
-  pub branches : (taken : Bool) (memory : List ℕ) (pc enabled words : ℕ) →
-      executeWord (context t pc enabled words) regs memory w ≡
-      beside (cond taken (jumpBy (context t pc enabled words) regs regs offset) (next (context t pc enabled words) regs)) memory →
-      Acts (context t pc enabled words) w regs memory (cond taken (Jump offset) Next)
-  branches true memory pc enabled words h = h
-  branches false memory pc enabled words h = h
+  pub branches : (taken : Bool) (memory : List ℕ) (pc enabled words turns : ℕ) →
+      executeWord (context t pc enabled words turns) regs memory w ≡
+      beside (cond taken (jumpBy (context t pc enabled words turns) regs regs offset) (next (context t pc enabled words turns) regs)) memory →
+      Acts (context t pc enabled words turns) w regs memory (cond taken (Jump offset) Next)
+  branches true memory pc enabled words turns h = h
+  branches false memory pc enabled words turns h = h
 
   pub accesses : (op : MemoryOp) → HasOpcode w 0x80 64 (rowM op .opcode) → w % 8 ≡ 0 → allowsM op (bits w 23 18) ≡ true →
-      (memory : List ℕ) (pc enabled words : ℕ) →
-      executeWord (context t pc enabled words) regs memory w ≡ access (context t pc enabled words) regs memory op (bits w 23 18) (bits w 17 12) immediate
+      (memory : List ℕ) (pc enabled words turns : ℕ) →
+      executeWord (context t pc enabled words turns) regs memory w ≡ access (context t pc enabled words turns) regs memory op (bits w 23 18) (bits w 17 12) immediate
   unfolding executeWord
-  accesses op h low allowed memory pc enabled words = rw (plain-M w op h low allowed)
+  accesses op h low allowed memory pc enabled words turns = rw (plain-M w op h low allowed)
 
   -- a load that is done
   pub loads : (op : LoadOp) → HasOpcode w 0x80 64 (rowM (Load op) .opcode) → w % 8 ≡ 0 → (memory : List ℕ) (x : ℕ) →
       load op memory operandA immediate ≡ done x → ActsOn t w regs memory (Write x)
   unfolding loadInto
-  loads op h low memory x e pc enabled words =
-      accesses (Load op) h low (free-register (bits w 23 18) (h .free)) memory pc enabled words ∙ rw e
+  loads op h low memory x e pc enabled words turns =
+      accesses (Load op) h low (free-register (bits w 23 18) (h .free)) memory pc enabled words turns ∙ rw e
 
   -- a store that is done, and one that traps, which changes no byte
   pub stores : (op : StoreOp) → HasOpcode w 0x80 64 (rowM (Store op) .opcode) → w % 8 ≡ 0 → (memory stored : List ℕ) →
-      storeResult Done stored ≡ store op memory operandA immediate (scalar regs t (bits w 23 18)) → (pc enabled words : ℕ) →
-      executed Stays (advanced (context t pc enabled words) regs) stored ≡ executeWord (context t pc enabled words) regs memory w
+      storeResult Done stored ≡ store op memory operandA immediate (scalar regs t (bits w 23 18)) → (pc enabled words turns : ℕ) →
+      executed Stays (advanced (context t pc enabled words turns) regs) stored ≡ executeWord (context t pc enabled words turns) regs memory w
   unfolding storeFrom
-  stores op h low memory stored e pc enabled words = sym (accesses (Store op) h low refl memory pc enabled words ∙ rw (← e))
+  stores op h low memory stored e pc enabled words turns = sym (accesses (Store op) h low refl memory pc enabled words turns ∙ rw (← e))
 
 trap-changes : (place : Attempt ℕ) (m : List ℕ) (f : ℕ → List ℕ) (reason : ℕ) (stored : List ℕ) →
     record { answer = fault reason; memory = stored } ≡ changed place m f → stored ≡ m

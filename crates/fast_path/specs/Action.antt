@@ -35,7 +35,7 @@ Acts c w regs memory a = Executes c w regs memory (stepOf c (field w firstRegist
 
 -- the same of a word that reads memory, wherever it stands, and of one on registers alone
 abbrev pub ActsOn : ℕ → ℕ → List ℕ → List ℕ → Action → Type 0
-ActsOn t w regs memory a = (pc enabled words : ℕ) → Acts (context t pc enabled words) w regs memory a
+ActsOn t w regs memory a = (pc enabled words turns : ℕ) → Acts (context t pc enabled words turns) w regs memory a
 
 abbrev pub ActsAnywhere : ℕ → ℕ → List ℕ → Action → Type 0
 ActsAnywhere t w regs a = (memory : List ℕ) → ActsOn t w regs memory a
@@ -45,9 +45,9 @@ abbrev pub Goes : Option Step → List ℕ → Bool → List ℕ → Type 0
 Goes s regs true after = s ≡ some (step Stays after)
 Goes s regs false after = after ≡ regs
 
--- the same of an action, whatever the enabled mask is
+-- the same of an action, whatever the enabled mask is, and however many turns the thread has had
 abbrev pub GoesBy : ℕ → ℕ → ℕ → ℕ → List ℕ → Action → Bool → List ℕ → Type 0
-GoesBy t pc words d regs a r after = (enabled : ℕ) → Goes (stepOf (context t pc enabled words) d regs a) regs r after
+GoesBy t pc words d regs a r after = (enabled turns : ℕ) → Goes (stepOf (context t pc enabled words turns) d regs a) regs r after
 
 -- an answer true says that the word was executed and the thread goes on; an answer false, that nothing changed
 abbrev pub Tried : Context → ℕ → List ℕ → List ℕ → Bool → List ℕ → List ℕ → Type 0
@@ -56,13 +56,14 @@ Tried c w regs memory false after stored = (after ≡ regs) × (stored ≡ memor
 
 -- the same of a store, whatever the program is, and of any word
 abbrev pub TriedStore : ℕ → ℕ → ℕ → List ℕ → List ℕ → Bool → List ℕ → List ℕ → Type 0
-TriedStore t pc w regs memory r after stored = (enabled words : ℕ) → Tried (context t pc enabled words) w regs memory r after stored
+TriedStore t pc w regs memory r after stored = (enabled words turns : ℕ) → Tried (context t pc enabled words turns) w regs memory r after stored
 
 abbrev pub TriedWord : ℕ → ℕ → ℕ → ℕ → List ℕ → List ℕ → Bool → List ℕ → List ℕ → Type 0
-TriedWord t pc words w regs memory r after stored = (enabled : ℕ) → Tried (context t pc enabled words) w regs memory r after stored
+TriedWord t pc words w regs memory r after stored = (enabled turns : ℕ) → Tried (context t pc enabled words turns) w regs memory r after stored
 
 -- an answer true says that the issue was made, whatever the record is, and set no status; an answer false, that nothing changed
 abbrev pub TriedIssue : List ℕ → ℕ → List ℕ → List ℕ → Bool → List ℕ → List ℕ → Type 0
 TriedIssue p t regs memory true after stored =
-    (m : Machine) → (state m after stored ≡ issue p (state m regs memory) t) × (false ≡ issueSetsStatus p (state m regs memory) t)
+    (m : Machine) (turns : ℕ)
+    → (state m after stored ≡ issue p (state m regs memory) t turns) × (false ≡ issueSetsStatus p (state m regs memory) t turns)
 TriedIssue p t regs memory false after stored = (after ≡ regs) × (stored ≡ memory)

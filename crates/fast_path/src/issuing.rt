@@ -1,7 +1,7 @@
 // One issue of a thread: by the fast path, or as any other.
 ghost use mathlib.Core.Path.{_≡_};
 ghost use Prim.Native.Nat.{_/_, _^_, _≤_, _<_};
-ghost use lib.ListN.{length};
+ghost use lib.ListN.{length, getD};
 ghost use Rattle.answer.specs.Refusal.{programWords};
 ghost use Rattle.execution.specs.Issue.{fits, issue, issueSetsStatus};
 ghost use Rattle.execution.specs.Jump.{inProgram};
@@ -134,19 +134,33 @@ fn try_word(program: &[u32], regs: &mut [u32], memory: &mut [u8], thread: usize)
     word(words, regs, memory, thread, pc, w)
 }
 
-// One issue, for any lengths and any thread number.
+// How many turns a thread has had, where there is such a thread.
+fn turns_of(turns: &[u32; 8], thread: usize) -> u32
+    ensures { λ r. ⌜ (thread < 8 → r ≡ getD (now (turns .entry)) thread 0) ⌝ }
+{
+    if 8 <= thread {
+        return 0;
+    }
+    turns[thread]
+}
+
+// One issue, for any lengths and any thread number. As in `execution::issue`, the thread is "last" already and its turn is counted
+// elsewhere; how many it has had is looked up where the slow path is taken, and not for every word.
 pub fn issue(
     program: &[u32],
     registers: &mut [u32],
     memory: &mut [u8],
     machine: Machine,
     thread: usize,
+    turns: &[u32; 8],
 ) -> Issued
     ensures { λ r. ⌜
         (state (r .machine) (now (registers .exit)) (now (memory .exit))
-        ≡ issue (now (program .entry)) (state machine (now (registers .entry)) (now (memory .entry))) thread)
+        ≡ issue (now (program .entry)) (state machine (now (registers .entry)) (now (memory .entry))) thread
+        (getD (now (turns .entry)) thread 0))
         × (r .changed
-        ≡ issueSetsStatus (now (program .entry)) (state machine (now (registers .entry)) (now (memory .entry))) thread)
+        ≡ issueSetsStatus (now (program .entry)) (state machine (now (registers .entry)) (now (memory .entry))) thread
+        (getD (now (turns .entry)) thread 0))
         ⌝ }
 {
     if try_word(program, registers, memory, thread) {
@@ -155,5 +169,6 @@ pub fn issue(
             changed: false,
         };
     }
-    execution::issue(program, registers, memory, machine, thread)
+    let had = turns_of(turns, thread);
+    execution::issue(program, registers, memory, machine, thread, had)
 }

@@ -24,8 +24,13 @@ fn meaning(number: u8) {
         3 => say(b"a memory has 64 to 65,536 bytes, a multiple of 64"),
         4 => say(b"the image holds a machine that is not well formed, or a number out of range"),
         5 => say(b"a mask is 1 to 255"),
-        9 => say(b"an image has 36,948 bytes and 68 more for each 64 bytes of memory"),
+        9 => say(
+            b"an image has 36,980 bytes, in the old form 36,948, and 68 more for each 64 bytes of memory",
+        ),
         10 => say(b"an image record has a wrong mark, or a number out of place"),
+        11 => say(
+            b"the old form holds no counts of turns, and one is not 0: --drop leaves them out",
+        ),
         15 => say(b"it is no record, or its checksum is wrong"),
         16 => say(b"its addresses begin before the end of the last record, or go past FFFF"),
         17 => say(b"there is no end record, or something behind it"),

@@ -18,7 +18,7 @@ use Rattle.image.specs.Claims.{OpensWith}
 use Rattle.image.specs.Image.{shapeOf, bodyOf, image, isEntry, entryIn, machineIn, recordIn}
 use Rattle.image.specs.Opening.{noBlocks, recordBytes, recordLength, openingNumber, readOpening}
 use Rattle.image.specs.Refusal.{contentNumber}
-use Rattle.image.specs.Types.{Hd, Th, Sr, Vr, Mm, Machine}
+use Rattle.image.specs.Types.{Hd, Ti, Sr, Vr, Mm, Newest, Machine}
 use Rattle.image.proofs.Refusals.{content-good}
 use Rattle.image.proofs.Bodies.{body-length-of}
 
@@ -30,16 +30,16 @@ module _ (m : Machine) where
   abbrev alone : State
   alone = state m [] []
 
-  pub hd-length : length (sectionOf (rowOf noBlocks Hd) (bodyOf alone Hd)) ≡ 4
-  hd-length = section-length (rowOf noBlocks Hd) (bodyOf alone Hd) (body-length-of noBlocks alone Hd tt)
+  pub hd-length : length (sectionOf (rowOf noBlocks Hd) (bodyOf Newest alone Hd)) ≡ 4
+  hd-length = section-length (rowOf noBlocks Hd) (bodyOf Newest alone Hd) (body-length-of noBlocks alone Hd tt)
 
-  pub th-length : length (sectionOf (rowOf noBlocks Th) (bodyOf alone Th)) ≡ 56
-  th-length = section-length (rowOf noBlocks Th) (bodyOf alone Th) (body-length-of noBlocks alone Th tt)
+  pub ti-length : length (sectionOf (rowOf noBlocks Ti) (bodyOf Newest alone Ti)) ≡ 88
+  ti-length = section-length (rowOf noBlocks Ti) (bodyOf Newest alone Ti) (body-length-of noBlocks alone Ti tt)
 
   pub opening-length : length (recordBytes m) ≡ recordLength
   unfolding recordBytes concatBelow
   opening-length =
-      omega (arith, length-append (sectionOf (rowOf noBlocks Hd) (bodyOf alone Hd)) (sectionOf (rowOf noBlocks Th) (bodyOf alone Th)), hd-length, th-length)
+      omega (arith, length-append (sectionOf (rowOf noBlocks Hd) (bodyOf Newest alone Hd)) (sectionOf (rowOf noBlocks Ti) (bodyOf Newest alone Ti)), hd-length, ti-length)
 
 module _ (l : List ℕ) (h : openingNumber l ≡ none) where
   pub opening-machine : readOpening l .machine ≡ machineIn noBlocks l
@@ -54,11 +54,11 @@ module _ (l : List ℕ) (h : openingNumber l ≡ none) where
 pub opens-with : OpensWith
 unfolding image laidOut concatBelow recordBytes
 opens-with s =
-    let w = shapeOf (s .memory) in
+    let w = shapeOf Newest (s .memory) in
     let x = recordBytes (s .machine) in
-    let sr = sectionOf (rowOf w Sr) (bodyOf s Sr) in
-    let vr = sectionOf (rowOf w Vr) (bodyOf s Vr) in
-    let mm = sectionOf (rowOf w Mm) (bodyOf s Mm) in
+    let sr = sectionOf (rowOf w Sr) (bodyOf Newest s Sr) in
+    let vr = sectionOf (rowOf w Vr) (bodyOf Newest s Vr) in
+    let mm = sectionOf (rowOf w Mm) (bodyOf Newest s Mm) in
     let l = opening-length (s .machine) in
     let one = length-append x sr in
     let two = length-append (x ++ sr) vr in

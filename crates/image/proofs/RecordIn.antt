@@ -4,19 +4,22 @@ use mathlib.Core.Bool.{Bool, _&&_}
 use mathlib.Core.List.{List, [], _∷_}
 use mathlib.Core.Path.{_≡_, refl, sym, ap, _∙_}
 use native.Mathlib.Omega.{arith}
-use lib.ListN.{length, getD, take, drop}
-use lib.Seq.{getD-drop, getD-take}
+use native.Mathlib.Nat.{le-of-eq}
+use lib.ListN.{length, getD, take, drop, length-drop}
+use lib.Seq.{getD-drop, getD-take, length-take-le}
 use Rattle.answer.specs.Answer.{Answer}
 use Rattle.image_layout.proofs.Join.{grown-whole, length-even}
 use Rattle.image_layout.proofs.Parts.{concatBelow-same}
-use Rattle.image_layout.proofs.Rows.{record-room, kind-room-in, order-few}
+use Rattle.image_layout.proofs.Rows.{entry-least, record-room, kind-room-in, order-few}
 use Rattle.image_layout.proofs.Tests.{all-same}
 use Rattle.image_layout.specs.Join.{concatBelow, allBelow, Grown}
-use Rattle.image_layout.specs.Layout.{rowOf, kinds, orderOf, recordSize, startOf, bodyPlace, bodyAt}
+use Rattle.image_layout.specs.Layout.{threadRow, rowOf, kinds, orderOf, recordSize, startOf, bodyPlace, bodyAt}
+use Rattle.little_endian.proofs.Numbers.{past-end, behind, cut}
+use Rattle.little_endian.specs.Numbers.{numberAt}
 use Rattle.image.specs.Fields.{fields, threadOf}
 use Rattle.machine.specs.WellFormed.{wellFormed}
 use Rattle.image.specs.Image.{fieldsIn, isEntry, entryOr, entryIn, threadsIn, machineIn, recordIn}
-use Rattle.image.specs.Types.{Hd, Th, Shape, Kind, Thread, Machine}
+use Rattle.image.specs.Types.{Hd, Ti, Form, Shape, Kind, Thread, Machine}
 
 -- a byte of a part
 pub part-byte : (l : List ℕ) (at w k : ℕ) → k < w → getD (take w (drop at l)) k 0 ≡ getD l (at + k) 0
@@ -25,8 +28,23 @@ part-byte l at w k h = getD-take w (drop at l) k 0 h ∙ getD-drop at l k 0
 pub part-first : (l : List ℕ) (at w : ℕ) → 0 < w → getD (take w (drop at l)) 0 0 ≡ getD l at 0
 part-first l at w h = part-byte l at w 0 h ∙ ap (λ z. getD l z 0) (let z : at + 0 ≡ at = omega arith in z)
 
-pub fields-at : (l : List ℕ) (at : ℕ) → fields (getD l at 0) (getD l (at + 1) 0) (getD l (at + 2) 0) (getD l (at + 3) 0) ≡ fieldsIn (take 4 (drop at l))
-fields-at l at = rw (part-first l at 4 (omega arith), part-byte l at 4 1 (omega arith), part-byte l at 4 2 (omega arith), part-byte l at 4 3 (omega arith))
+-- the count of turns in an entry's bytes, and past the end of those of the old form
+pub turns-newest : (l : List ℕ) (at : ℕ) → numberAt 4 l (at + 4) ≡ numberAt 4 (take 8 (drop at l)) 4
+turns-newest l at = sym (cut 4 8 (drop at l) 4 (omega arith) ∙ behind 4 l at 4)
+
+pub turns-old : (l : List ℕ) (at : ℕ) → at + 4 ≤ length l → 0 ≡ numberAt 4 (take 4 (drop at l)) 4
+turns-old l at h = sym (past-end 4 (take 4 (drop at l)) 4 (le-of-eq (length-take-le 4 (drop at l) (rw (length-drop at l) (omega arith)))))
+
+-- the numbers of the entry at a place
+pub fields-at : (f : Form) (l : List ℕ) (at turns : ℕ) → turns ≡ numberAt 4 (take (threadRow f .size) (drop at l)) 4
+    → fields (getD l at 0) (getD l (at + 1) 0) (getD l (at + 2) 0) (getD l (at + 3) 0) turns ≡ fieldsIn (take (threadRow f .size) (drop at l))
+fields-at f l at turns e =
+    let w = threadRow f .size in
+    let p0 = sym (part-first l at w (omega (arith, entry-least f))) in
+    let p1 = sym (part-byte l at w 1 (omega (arith, entry-least f))) in
+    let p2 = sym (part-byte l at w 2 (omega (arith, entry-least f))) in
+    let p3 = sym (part-byte l at w 3 (omega (arith, entry-least f))) in
+    (λ i. fields (p0 i) (p1 i) (p2 i) (p3 i) (e i))
 
 -- Fixed places.
 
@@ -47,23 +65,23 @@ module _ (s : Shape) (k : Kind) where
 -- The entries.
 
 -- the entry at a place
-abbrev pub entryAt : List ℕ → ℕ → Answer Thread
-entryAt l p = threadOf (fieldsIn (take 4 (drop p l)))
+abbrev pub entryAt : Form → List ℕ → ℕ → Answer Thread
+entryAt f l p = threadOf (fieldsIn (take (threadRow f .size) (drop p l)))
 
-entry-in : (s : Shape) (l : List ℕ) (t p : ℕ) → p ≡ bodyPlace (rowOf s Th) (startOf s (orderOf Th)) t → entryAt l p ≡ entryIn s l t
+entry-in : (s : Shape) (l : List ℕ) (t p : ℕ) → p ≡ bodyPlace (rowOf s Ti) (startOf s (orderOf Ti)) t → entryAt (s .form) l p ≡ entryIn s l t
 unfolding entryIn bodyAt
-entry-in s l t p e = ap (entryAt l) e
+entry-in s l t p e = ap (entryAt (s .form) l) e
 
-module _ (s : Shape) (l : List ℕ) (at size : ℕ) (place : (t : ℕ) → at + size * t ≡ bodyPlace (rowOf s Th) (startOf s (orderOf Th)) t) where
-  pub entries-read : allBelow 8 (λ t. isEntry (entryAt l (at + size * t))) ≡ allBelow 8 (λ t. isEntry (entryIn s l t))
+module _ (s : Shape) (l : List ℕ) (at size : ℕ) (place : (t : ℕ) → at + size * t ≡ bodyPlace (rowOf s Ti) (startOf s (orderOf Ti)) t) where
+  pub entries-read : allBelow 8 (λ t. isEntry (entryAt (s .form) l (at + size * t))) ≡ allBelow 8 (λ t. isEntry (entryIn s l t))
   entries-read = all-same 8 _ _ (λ t h. ap isEntry (entry-in s l t (at + size * t) (place t)))
 
-  entries-same : concatBelow 8 (λ t. entryOr (entryAt l (at + size * t)) ∷ []) ≡ threadsIn s l
+  entries-same : concatBelow 8 (λ t. entryOr (entryAt (s .form) l (at + size * t)) ∷ []) ≡ threadsIn s l
   unfolding threadsIn
   entries-same = concatBelow-same 8 _ _ (λ t h. ap (λ e. entryOr e ∷ []) (entry-in s l t (at + size * t) (place t)))
 
-  pub threads-read : {m n : List Thread} {p : ℕ} → length m ≡ 8 → Grown m n 0 p (concatBelow 8 (λ t. entryOr (entryAt l (at + size * t)) ∷ [])) → n ≡ threadsIn s l
-  threads-read h g = grown-whole g (length-even 8 1 (λ t. entryOr (entryAt l (at + size * t)) ∷ []) (λ _ _. refl) ∙ sym h) ∙ entries-same
+  pub threads-read : {m n : List Thread} {p : ℕ} → length m ≡ 8 → Grown m n 0 p (concatBelow 8 (λ t. entryOr (entryAt (s .form) l (at + size * t)) ∷ [])) → n ≡ threadsIn s l
+  threads-read h g = grown-whole g (length-even 8 1 (λ t. entryOr (entryAt (s .form) l (at + size * t)) ∷ []) (λ _ _. refl) ∙ sym h) ∙ entries-same
 
 -- The record.
 

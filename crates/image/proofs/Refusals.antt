@@ -1,7 +1,7 @@
 -- What a call has of its lengths and its record where the table gives it no number, and what it then gives.
 use Prim.Native.Nat.{ℕ, _*_, _/_, _%_, _≤_}
 use mathlib.Core.Bool.{Bool, true, false, cond, _||_, not}
-use mathlib.Core.List.{List, [], _∷_}
+use mathlib.Core.List.{List}
 use mathlib.Core.Option.{Option, none, some}
 use mathlib.Core.Path.{_≡_, refl, sym, ap, _∙_}
 use native.Mathlib.Omega.{arith}
@@ -11,27 +11,23 @@ use lib.ListN.{length}
 use Rattle.answer.specs.Answer.{given, refused}
 use Rattle.answer.proofs.Checks.{passed, first-after, either-given}
 use Rattle.answer.proofs.Lengths.{memory-most}
-use Rattle.answer.specs.Refusal.{badRegisters, badMemory, fixedPart, imageLength, badLength, check, firstThatApplies, sizeChecks, sizesNumber, refusedOr}
+use Rattle.answer.specs.Refusal.{badRegisters, badMemory, imageLength, badLength, firstThatApplies, sizeChecks, sizesNumber, refusedOr}
 use Rattle.machine.specs.State.{State}
 use Rattle.machine.proofs.Tests.{neither}
 use Rattle.machine.specs.WellFormed.{wellFormed}
-use Rattle.image_layout.proofs.Rows.{whole-length}
-use Rattle.image_layout.specs.Layout.{ofBlocks, kinds, startOf, headsIn}
-use Rattle.image.specs.Calls.{WriteResult, writing, writeRefusal, write, ReadResult, reading, readRefusal, readBy, read}
+use Rattle.image_layout.proofs.Rows.{whole-length, form-told}
+use Rattle.image_layout.specs.Layout.{fixedOf, formOf, ofBlocks, kinds, startOf, headsIn}
+use Rattle.image.specs.Calls.{WriteResult, writing, writeRefusal, writeAs, ReadResult, reading, readRefusal, readBy, read}
 use Rattle.image.specs.Image.{shapeOf, Lengths, image, recordIn, stateIn}
-use Rattle.image.specs.Refusal.{writeNumber, contentNumber, recordChecks, recordsNumber, readNumber}
-use Rattle.image.specs.Types.{Shape}
-
-last-check : (n : ℕ) (applies : Bool) → firstThatApplies (check n applies ∷ []) ≡ cond applies (some n) none
-unfolding firstThatApplies
-last-check n applies = refl
+use Rattle.image.specs.Refusal.{losesCounts, writeChecks, recordNumber, writeNumber, contentNumber, recordChecks, recordsNumber, readNumberIn, readNumber}
+use Rattle.image.specs.Types.{Form, Shape, Machine}
 
 -- The lengths.
 
-pub record Sized (room bytes size : ℕ) : Type 0 where
+pub record Sized (f : Form) (room bytes size : ℕ) : Type 0 where
   pub registers : badRegisters room ≡ false
   pub memory : badMemory bytes ≡ false
-  pub length : badLength fixedPart bytes size ≡ false
+  pub length : badLength (fixedOf f) bytes size ≡ false
 
 pub memory-blocks : (bytes : ℕ) → badMemory bytes ≡ false → bytes / 64 ≤ 1024
 memory-blocks bytes h = omega (arith, memory-most bytes h)
@@ -45,62 +41,77 @@ room-words room h = eqb-true room 8704 (not-false (eqb room 8704) h)
 pub words-room : (room : ℕ) → room ≡ 8704 → badRegisters room ≡ false
 words-room room h = rw (eq-eqb room 8704 h)
 
-pub good-length : (bytes size : ℕ) → badLength fixedPart bytes size ≡ false → size ≡ imageLength fixedPart bytes
-good-length bytes size h = eqb-true size (imageLength fixedPart bytes) (not-false (eqb size (imageLength fixedPart bytes)) h)
+pub good-length : (fixed bytes size : ℕ) → badLength fixed bytes size ≡ false → size ≡ imageLength fixed bytes
+good-length fixed bytes size h = eqb-true size (imageLength fixed bytes) (not-false (eqb size (imageLength fixed bytes)) h)
 
-pub length-good : (bytes size : ℕ) → size ≡ imageLength fixedPart bytes → badLength fixedPart bytes size ≡ false
-length-good bytes size h = rw (eq-eqb size (imageLength fixedPart bytes) h)
+pub length-good : (fixed bytes size : ℕ) → size ≡ imageLength fixed bytes → badLength fixed bytes size ≡ false
+length-good fixed bytes size h = rw (eq-eqb size (imageLength fixed bytes) h)
 
-module _ (room bytes size : ℕ) where
-  pub sized : sizesNumber fixedPart room bytes size ≡ none → Sized room bytes size
+module _ (f : Form) (room bytes size : ℕ) where
+  pub sized : sizesNumber (fixedOf f) room bytes size ≡ none → Sized f room bytes size
   unfolding sizesNumber firstThatApplies
   sized h =
       let a = passed (badRegisters room) 2 _ h in
       let b = passed (badMemory bytes) 3 _ (a .1) in
-      let c = passed (badLength fixedPart bytes size) 9 none (b .1) in
+      let c = passed (badLength (fixedOf f) bytes size) 9 none (b .1) in
       record { registers = a .0; memory = b .0; length = c .0 }
 
-  pub sizes-none : Sized room bytes size → sizesNumber fixedPart room bytes size ≡ none
+  pub sizes-none : Sized f room bytes size → sizesNumber (fixedOf f) room bytes size ≡ none
   unfolding sizesNumber firstThatApplies
   sizes-none k = rw (k .registers, k .memory, k .length)
 
-  module _ (k : Sized room bytes size) where
-    pub long : startOf (ofBlocks (bytes / 64)) kinds ≡ size
-    long = whole-length (ofBlocks (bytes / 64)) ∙ sym (good-length bytes size (k .length))
+  module _ (k : Sized f room bytes size) where
+    pub long : startOf (ofBlocks f (bytes / 64)) kinds ≡ size
+    long = whole-length (ofBlocks f (bytes / 64)) ∙ sym (good-length (fixedOf f) bytes size (k .length))
 
-pub lengths : (registers memory : List ℕ) (size : ℕ) → Sized (length registers) (length memory) size → Lengths (shapeOf memory) registers memory
-lengths registers memory size k =
+    -- the length says the form
+    pub told : formOf size ≡ f
+    told = ap formOf (good-length (fixedOf f) bytes size (k .length)) ∙ form-told f bytes
+
+pub lengths : (f : Form) (registers memory : List ℕ) (size : ℕ) → Sized f (length registers) (length memory) size → Lengths (shapeOf f memory) registers memory
+lengths f registers memory size k =
     record { room = room-words (length registers) (k .registers); whole = memory-whole (length memory) (k .memory); few = memory-blocks (length memory) (k .memory) }
 
 -- Writing.
 
-module _ (s : State) (buffer : List ℕ) where
+module _ (f : Form) (dropping : Bool) (m : Machine) where
+  pub record-bad : wellFormed m ≡ false → recordNumber f dropping m ≡ some 4
+  unfolding recordNumber firstThatApplies
+  record-bad h = rw h
+
+  pub record-loses : wellFormed m ≡ true → losesCounts f dropping m ≡ true → recordNumber f dropping m ≡ some 11
+  unfolding recordNumber firstThatApplies
+  record-loses h g = rw (h, g)
+
+  pub record-none : wellFormed m ≡ true → losesCounts f dropping m ≡ false → recordNumber f dropping m ≡ none
+  unfolding recordNumber firstThatApplies
+  record-none h g = rw (h, g)
+
+  pub record-good : recordNumber f dropping m ≡ none → (wellFormed m ≡ true) × (losesCounts f dropping m ≡ false)
+  unfolding recordNumber firstThatApplies
+  record-good h =
+      let a = passed (not (wellFormed m)) 4 _ h in
+      (not-false (wellFormed m) (a .0), passed (losesCounts f dropping m) 11 none (a .1) .0)
+
+module _ (f : Form) (dropping : Bool) (s : State) (buffer : List ℕ) where
   abbrev sizes : Option ℕ
-  sizes = sizesNumber fixedPart (length (s .registers)) (length (s .memory)) (length buffer)
+  sizes = sizesNumber (fixedOf f) (length (s .registers)) (length (s .memory)) (length buffer)
 
-  number-is : writeRefusal s buffer ≡ refusedOr sizes some (cond (not (wellFormed (s .machine))) (some 4) none)
-  unfolding writeNumber sizesNumber
-  number-is = first-after (sizeChecks fixedPart (length (s .registers)) (length (s .memory)) (length buffer)) (check 4 (not (wellFormed (s .machine))) ∷ []) ∙ ap (refusedOr sizes some) (last-check 4 (not (wellFormed (s .machine))))
+  -- the lengths are judged before the record
+  pub write-number : refusedOr sizes some (recordNumber f dropping (s .machine)) ≡ writeRefusal f dropping s buffer
+  unfolding writeNumber sizesNumber recordNumber
+  write-number = sym (first-after (sizeChecks (fixedOf f) (length (s .registers)) (length (s .memory)) (length buffer)) (writeChecks f dropping (s .machine)))
 
-  answer : (o : Option ℕ) → writeRefusal s buffer ≡ o
-      → refusedOr o (λ number. writing (refused number) buffer) (writing (given tt) (image s)) ≡ write s buffer
-  unfolding write
-  answer o e = rw e
+  pub write-by : (o : Option ℕ) → writeRefusal f dropping s buffer ≡ o
+      → refusedOr o (λ number. writing (refused number) buffer) (writing (given tt) (image f s)) ≡ writeAs f dropping s buffer
+  unfolding writeAs
+  write-by o e = rw e
 
-  pub write-sizes : (n : ℕ) → sizes ≡ some n → writing (refused n) buffer ≡ write s buffer
-  write-sizes n h = answer (some n) (number-is ∙ ap (λ o. refusedOr o some (cond (not (wellFormed (s .machine))) (some 4) none)) h)
+  pub write-taken : sizes ≡ none → recordNumber f dropping (s .machine) ≡ none → writing (given tt) (image f s) ≡ writeAs f dropping s buffer
+  write-taken h g = write-by none (sym write-number ∙ rw (h, g))
 
-  module _ (h : sizes ≡ none) where
-    pub write-record : wellFormed (s .machine) ≡ false → writing (refused 4) buffer ≡ write s buffer
-    write-record w = answer (some 4) (number-is ∙ rw (h, w))
-
-    pub write-taken : wellFormed (s .machine) ≡ true → writing (given tt) (image s) ≡ write s buffer
-    write-taken w = answer none (number-is ∙ rw (h, w))
-
-  pub write-good : writeRefusal s buffer ≡ none → (sizes ≡ none) × (wellFormed (s .machine) ≡ true)
-  write-good h =
-      let a = either-given sizes (cond (not (wellFormed (s .machine))) (some 4) none) (sym number-is ∙ h) in
-      (a .0, not-false (wellFormed (s .machine)) (passed (not (wellFormed (s .machine))) 4 none (a .1) .0))
+  pub write-good : writeRefusal f dropping s buffer ≡ none → (sizes ≡ none) × (recordNumber f dropping (s .machine) ≡ none)
+  write-good h = either-given sizes (recordNumber f dropping (s .machine)) (write-number ∙ h)
 
 -- Reading.
 
@@ -133,17 +144,17 @@ module _ (s : Shape) (l : List ℕ) where
   unfolding recordsNumber contentNumber
   records-good = content-good (headsIn s l) (recordIn s l)
 
-pub read-number : (l : List ℕ) (room bytes : ℕ) → readNumber l room bytes ≡ refusedOr (sizesNumber fixedPart room bytes (length l)) some (recordsNumber (ofBlocks (bytes / 64)) l)
-unfolding readNumber sizesNumber recordsNumber
-read-number l room bytes = first-after (sizeChecks fixedPart room bytes (length l)) (recordChecks (ofBlocks (bytes / 64)) l)
+pub read-number : (f : Form) (l : List ℕ) (room bytes : ℕ) → readNumberIn f l room bytes ≡ refusedOr (sizesNumber (fixedOf f) room bytes (length l)) some (recordsNumber (ofBlocks f (bytes / 64)) l)
+unfolding readNumberIn sizesNumber recordsNumber
+read-number f l room bytes = first-after (sizeChecks (fixedOf f) room bytes (length l)) (recordChecks (ofBlocks f (bytes / 64)) l)
 
 module _ (l registers memory : List ℕ) where
-  pub read-by : (o : Option ℕ) → readRefusal l registers memory ≡ o → readBy o (shapeOf memory) l registers memory ≡ read l registers memory
+  pub read-by : (o : Option ℕ) → readRefusal l registers memory ≡ o → readBy o (shapeOf (formOf (length l)) memory) l registers memory ≡ read l registers memory
   unfolding read
   read-by o h = rw h
 
-  pub read-taken : readRefusal l registers memory ≡ none → reading (given tt) (stateIn (shapeOf memory) l) ≡ read l registers memory
+  pub read-taken : readRefusal l registers memory ≡ none → reading (given tt) (stateIn (shapeOf (formOf (length l)) memory) l) ≡ read l registers memory
   read-taken = read-by none
 
-pub read-sized : (l : List ℕ) (room bytes : ℕ) → readNumber l room bytes ≡ none → (sizesNumber fixedPart room bytes (length l) ≡ none) × (recordsNumber (ofBlocks (bytes / 64)) l ≡ none)
-read-sized l room bytes h = either-given (sizesNumber fixedPart room bytes (length l)) _ (sym (read-number l room bytes) ∙ h)
+pub read-sized : (f : Form) (l : List ℕ) (room bytes : ℕ) → readNumberIn f l room bytes ≡ none → (sizesNumber (fixedOf f) room bytes (length l) ≡ none) × (recordsNumber (ofBlocks f (bytes / 64)) l ≡ none)
+read-sized f l room bytes h = either-given (sizesNumber (fixedOf f) room bytes (length l)) _ (sym (read-number f l room bytes) ∙ h)

@@ -1,5 +1,6 @@
 -- What the calls hand back and leave (document 01, "Numbers given back" and "Saved image").
 use Prim.Native.Nat.{ℕ}
+use mathlib.Core.Bool.{Bool, false}
 use mathlib.Core.List.{List}
 use mathlib.Core.Option.{Option}
 use lib.ListN.{length}
@@ -7,10 +8,11 @@ use Rattle.answer.specs.Answer.{Answer, given, refused}
 use Rattle.answer.specs.Refusal.{refusedOr}
 use Rattle.machine.specs.State.{State, state}
 use Rattle.machine.specs.Machine.{zeroed}
+use Rattle.image_layout.specs.Layout.{formOf}
 use Rattle.image.specs.Answer.{writeAnswered, readAnswered}
 use Rattle.image.specs.Image.{shapeOf, image, stateIn}
 use Rattle.image.specs.Refusal.{writeNumber, readNumber}
-use Rattle.image.specs.Types.{Shape, WriteAnswer, Read}
+use Rattle.image.specs.Types.{Form, Newest, Old, Shape, WriteAnswer, Read}
 
 -- Writing: the answer, and the buffer left.
 
@@ -24,13 +26,21 @@ writing answer buffer = record { answer = answer; buffer = buffer }
 abbrev pub written : WriteAnswer → List ℕ → WriteResult
 written r buffer = writing (writeAnswered r) buffer
 
--- the number that the table gives the writing of a state into a buffer
-abbrev pub writeRefusal : State → List ℕ → Option ℕ
-writeRefusal s buffer = writeNumber (length (s .registers)) (length (s .memory)) (length buffer) (s .machine)
+-- the number that the table gives the writing of a state into a buffer, in a form, with or without dropping allowed
+abbrev pub writeRefusal : Form → Bool → State → List ℕ → Option ℕ
+writeRefusal f dropping s buffer = writeNumber f dropping (length (s .registers)) (length (s .memory)) (length buffer) (s .machine)
 
 -- "A refusal changes no lent buffer"
-unfoldable pub write : State → List ℕ → WriteResult
-write s buffer = refusedOr (writeRefusal s buffer) (λ number. writing (refused number) buffer) (writing (given tt) (image s))
+unfoldable pub writeAs : Form → Bool → State → List ℕ → WriteResult
+writeAs f dropping s buffer =
+    refusedOr (writeRefusal f dropping s buffer) (λ number. writing (refused number) buffer) (writing (given tt) (image f s))
+
+-- the newest form, which holds every count; and "The old form can be written back, with counts 0 unless the caller allows dropping them."
+abbrev pub write : State → List ℕ → WriteResult
+write s buffer = writeAs Newest false s buffer
+
+abbrev pub writeOld : Bool → State → List ℕ → WriteResult
+writeOld dropping s buffer = writeAs Old dropping s buffer
 
 -- Reading: the answer, and the machine handed back and left.
 
@@ -53,5 +63,6 @@ abbrev pub readBy : Option ℕ → Shape → List ℕ → List ℕ → List ℕ 
 readBy number a l registers memory =
     refusedOr number (λ n. reading (refused n) (state zeroed registers memory)) (reading (given tt) (stateIn a l))
 
+-- "Refusal 9 knows both lengths": the form is the one that the length says
 unfoldable pub read : List ℕ → List ℕ → List ℕ → ReadResult
-read l registers memory = readBy (readRefusal l registers memory) (shapeOf memory) l registers memory
+read l registers memory = readBy (readRefusal l registers memory) (shapeOf (formOf (length l)) memory) l registers memory

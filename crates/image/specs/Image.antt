@@ -8,17 +8,17 @@ use Rattle.answer.specs.Answer.{Answer, given, refused}
 use Rattle.answer.specs.Refusal.{registerWords}
 use Rattle.machine.specs.State.{scalarIndex, laneIndex}
 use Rattle.machine.specs.State.{State, state}
-use Rattle.machine.specs.Machine.{zeroThread}
+use Rattle.machine.specs.Machine.{zeroThread, withTurns}
 use Rattle.machine.specs.WellFormed.{wellFormed}
 use Rattle.image_layout.specs.Join.{concatBelow, allBelow}
 use Rattle.image_layout.specs.Layout.{ofBlocks, rowOf, laidOut, bodyIn}
-use Rattle.little_endian.specs.Numbers.{bytesOf, wordsOf}
+use Rattle.little_endian.specs.Numbers.{numberAt, numberBytes, bytesOf, wordsOf}
 use Rattle.image.specs.Fields.{fields, fieldsOf, threadOf}
-use Rattle.image.specs.Types.{Kind, Hd, Th, Sr, Vr, Mm, Shape, Machine, Thread, ThreadFields}
+use Rattle.image.specs.Types.{Kind, Hd, Ti, Sr, Vr, Mm, Form, Newest, Old, Shape, Machine, Thread, ThreadFields}
 
--- the shape of an image goes by the length of the memory
-abbrev pub shapeOf : List ℕ → Shape
-shapeOf memory = ofBlocks (length memory / 64)
+-- the shape of an image goes by its form and the length of the memory
+abbrev pub shapeOf : Form → List ℕ → Shape
+shapeOf f memory = ofBlocks f (length memory / 64)
 
 -- the lengths of the buffers lent to a call that is not refused, of an image of a shape
 pub record Lengths (a : Shape) (registers memory : List ℕ) : Type 0 where
@@ -26,10 +26,10 @@ pub record Lengths (a : Shape) (registers memory : List ℕ) : Type 0 where
   pub whole : 64 * a .blocks ≡ length memory
   pub few : a .blocks ≤ 1024
 
--- what the records of a kind ask of them: HD and TH hold the machine record alone
+-- what the records of a kind ask of them: HD and TI hold the machine record alone
 abbrev pub Suits : Shape → Kind → List ℕ → List ℕ → Type 0
 Suits a Hd registers memory = Unit {0}
-Suits a Th registers memory = Unit {0}
+Suits a Ti registers memory = Unit {0}
 Suits a Sr registers memory = Lengths a registers memory
 Suits a Vr registers memory = Lengths a registers memory
 Suits a Mm registers memory = Lengths a registers memory
@@ -37,26 +37,40 @@ Suits a Mm registers memory = Lengths a registers memory
 -- Writing.
 
 -- "status, reason, id, count (0 where not carried)"
-abbrev pub fieldBytes : ThreadFields → List ℕ
-fieldBytes f = f .status ∷ f .reason ∷ f .id ∷ f .count ∷ []
+abbrev pub statusBytes : ThreadFields → List ℕ
+statusBytes n = n .status ∷ n .reason ∷ n .id ∷ n .count ∷ []
+
+-- "TH becomes TI, four bytes longer at its end" (02, T-05); "words .. are little endian"
+abbrev pub fieldBytes : Form → ThreadFields → List ℕ
+fieldBytes Newest n = statusBytes n ++ numberBytes 4 (n .turns)
+fieldBytes Old n = statusBytes n
 
 -- what stands behind the place numbers of record i of a kind: "HD, last, enabled; eight TH: .. status, reason, id, count ..; eight SR:
 -- .. 64 words; 512 VR: .. 16 words; MM for each 64-byte block: .. 64 bytes". Thread t has the records 64t to 64t + 63 of VR.
-abbrev pub bodyOf : State → Kind → ℕ → List ℕ
-bodyOf s Hd i = s .machine .last ∷ s .machine .enabled ∷ []
-bodyOf s Th i = fieldBytes (fieldsOf (getD (s .machine .threads) i zeroThread))
-bodyOf s Sr i = bytesOf 64 (drop (scalarIndex i 0) (s .registers))
-bodyOf s Vr i = bytesOf 16 (drop (laneIndex (i / 64) (i % 64) 0) (s .registers))
-bodyOf s Mm i = take 64 (drop (64 * i) (s .memory))
+abbrev pub bodyOf : Form → State → Kind → ℕ → List ℕ
+bodyOf f s Hd i = s .machine .last ∷ s .machine .enabled ∷ []
+bodyOf f s Ti i = fieldBytes f (fieldsOf (getD (s .machine .threads) i zeroThread))
+bodyOf f s Sr i = bytesOf 64 (drop (scalarIndex i 0) (s .registers))
+bodyOf f s Vr i = bytesOf 16 (drop (laneIndex (i / 64) (i % 64) 0) (s .registers))
+bodyOf f s Mm i = take 64 (drop (64 * i) (s .memory))
 
--- the image of a machine
-unfoldable pub image : State → List ℕ
-image s = laidOut (shapeOf (s .memory)) (bodyOf s)
+-- the image of a machine in a form
+unfoldable pub image : Form → State → List ℕ
+image f s = laidOut (shapeOf f (s .memory)) (bodyOf f s)
+
+-- the record, and the machine, that an image of a form holds: "Old images are read with all counts 0." (02, T-05)
+abbrev pub heldRecord : Form → Machine → Machine
+heldRecord Newest m = m
+heldRecord Old m = withTurns m []
+
+abbrev pub held : Form → State → State
+held f s = state (heldRecord f (s .machine)) (s .registers) (s .memory)
 
 -- Reading.
 
+-- the numbers of an entry's bytes: an old entry ends before its count, which then is 0
 abbrev pub fieldsIn : List ℕ → ThreadFields
-fieldsIn body = fields (getD body 0 0) (getD body 1 0) (getD body 2 0) (getD body 3 0)
+fieldsIn body = fields (getD body 0 0) (getD body 1 0) (getD body 2 0) (getD body 3 0) (numberAt 4 body 4)
 
 -- whether numbers are read as an entry, and as which
 abbrev pub isEntry : Answer Thread → Bool
@@ -68,7 +82,7 @@ entryOr (given thread) = thread
 entryOr (refused number) = zeroThread
 
 unfoldable pub entryIn : Shape → List ℕ → ℕ → Answer Thread
-entryIn a l t = threadOf (fieldsIn (bodyIn a l Th t))
+entryIn a l t = threadOf (fieldsIn (bodyIn a l Ti t))
 
 unfoldable pub threadsIn : Shape → List ℕ → List Thread
 threadsIn a l = concatBelow 8 (λ t. entryOr (entryIn a l t) ∷ [])

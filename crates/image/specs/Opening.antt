@@ -1,4 +1,4 @@
--- The machine record alone, in the bytes that an image opens with: HD, and eight TH (document 01, "Saved image").
+-- The machine record alone, in the bytes that an image opens with: HD, and eight TI (document 01, "Saved image"; 02, T-05).
 use Prim.Native.Nat.{ℕ}
 use mathlib.Core.List.{List, []}
 use mathlib.Core.Option.{Option}
@@ -8,18 +8,18 @@ use Rattle.machine.specs.Machine.{zeroed}
 use Rattle.image_layout.specs.Layout.{ofBlocks, recordKinds, laidUpTo, headsUpTo}
 use Rattle.image.specs.Image.{bodyOf, machineIn, recordIn}
 use Rattle.image.specs.Refusal.{contentChecks}
-use Rattle.image.specs.Types.{Shape, Machine, Judgement}
+use Rattle.image.specs.Types.{Newest, Shape, Machine, Judgement}
 
--- HD and TH are the same for every memory
+-- HD and TI of the newest form, which are the same for every memory
 abbrev pub noBlocks : Shape
-noBlocks = ofBlocks 0
+noBlocks = ofBlocks Newest 0
 
 -- the bytes of a machine record, and how many they are
 unfoldable pub recordBytes : Machine → List ℕ
-recordBytes m = laidUpTo recordKinds noBlocks (bodyOf (state m [] []))
+recordBytes m = laidUpTo recordKinds noBlocks (bodyOf Newest (state m [] []))
 
 abbrev pub recordLength : ℕ
-recordLength = 60
+recordLength = 92
 
 -- what is checked of such bytes: as of the image that opens with them
 abbrev pub openingChecks : List ℕ → List Check

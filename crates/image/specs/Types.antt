@@ -1,6 +1,8 @@
 -- The types that the code declares, and those of the crates below, in one module.
 pub use Rattle.image_layout.specs.declared.layout.Kind.{Kind}
-pub use Rattle.image_layout.specs.declared.layout.Kind.the-variants.{Hd, Th, Sr, Vr, Mm}
+pub use Rattle.image_layout.specs.declared.layout.Kind.the-variants.{Hd, Ti, Sr, Vr, Mm}
+pub use Rattle.image_layout.specs.declared.layout.Form.{Form}
+pub use Rattle.image_layout.specs.declared.layout.Form.the-variants.{Newest, Old}
 pub use Rattle.image_layout.specs.declared.layout.Shape.{Shape}
 pub use Rattle.image.specs.declared.verdicts.Judgement.{Judgement}
 pub use Rattle.image.specs.declared.fields.ThreadFields.{ThreadFields}

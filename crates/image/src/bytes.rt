@@ -6,7 +6,7 @@ ghost use Rattle.image_layout.specs.Join.{Grown};
 ghost use Rattle.little_endian.specs.Numbers.{numberAt, numberBytes, bytesOf, wordsOf};
 
 // A word stored from a place on, the lowest byte first.
-fn put_word(word: u32, buffer: &mut [u8], at: usize)
+pub fn put_word(word: u32, buffer: &mut [u8], at: usize)
     requires { ⌜ at + 4 ≤ length (now buffer) ⌝ }
     ensures { λ _. ⌜ Grown (now (buffer .entry)) (now (buffer .exit)) at (at + 4) (numberBytes 4 word) ⌝ }
 {
@@ -35,7 +35,7 @@ fn byte(image: &[u8], at: usize) -> u32
 }
 
 // The word at a place.
-fn word_at(image: &[u8], at: usize) -> u32
+pub fn word_at(image: &[u8], at: usize) -> u32
     requires { ⌜ at + 4 ≤ length (now image) ⌝ }
     ensures { λ r. ⌜ r ≡ numberAt 4 (now (image .entry)) at ⌝ }
 {

@@ -3,13 +3,16 @@ ghost use Prim.Native.Nat.{_+_, _≤_};
 ghost use mathlib.Core.Path.{_≡_};
 ghost use lib.ListN.{length, take, drop};
 ghost use Rattle.image_layout.specs.Join.{allBelow};
-ghost use Rattle.image_layout.specs.Layout.{recordKinds, startOf};
+ghost use Rattle.image_layout.specs.Layout.{recordKinds, threadRow, startOf};
+ghost use Rattle.little_endian.specs.Numbers.{numberAt};
 ghost use Rattle.image.specs.Answer.{entryAnswered};
 ghost use Rattle.image.specs.Fields.{threadOf};
 ghost use Rattle.image.specs.Image.{fieldsIn, isEntry, entryOr, entryIn, threadsIn, machineIn, recordIn};
+use crate::bytes::word_at;
 use crate::fields::EntryReading;
 use crate::fields::ThreadFields;
 use crate::fields::read_entry;
+use image_layout::Form;
 use image_layout::Kind;
 use image_layout::Shape;
 use image_layout::first_body;
@@ -47,20 +50,33 @@ fn entry_or_zero(entry: EntryReading) -> Thread
 {
     match entry {
         EntryReading::Entry(thread) => thread,
-        EntryReading::Refused => Thread::of_status(Status::Idle),
+        EntryReading::Refused => Thread::new(Status::Idle, 0),
+    }
+}
+
+// The count of turns of the entry at a place: 0 in the old form, which has none.
+fn turns_at(form: Form, image: &[u8], at: usize) -> u32
+    requires { ⌜ at + threadRow form .size ≤ length (now image) ⌝ }
+    ensures { λ r. ⌜ r ≡ numberAt 4 (take (threadRow form .size) (drop at (now (image .entry)))) 4 ⌝ }
+{
+    match form {
+        Form::Newest => word_at(image, at + 4),
+        Form::Old => 0,
     }
 }
 
 // The entry whose numbers stand at a place.
-fn entry_at(image: &[u8], at: usize) -> EntryReading
-    requires { ⌜ at + 4 ≤ length (now image) ⌝ }
-    ensures { λ r. ⌜ entryAnswered r ≡ threadOf (fieldsIn (take 4 (drop at (now (image .entry))))) ⌝ }
+fn entry_at(form: Form, image: &[u8], at: usize) -> EntryReading
+    requires { ⌜ at + threadRow form .size ≤ length (now image) ⌝ }
+    ensures { λ r. ⌜ entryAnswered r ≡ threadOf (fieldsIn (take (threadRow form .size) (drop at (now (image .entry))))) ⌝ }
 {
+    let turns = turns_at(form, image, at);
     read_entry(ThreadFields {
         status: image[at],
         reason: image[at + 1],
         id: image[at + 2],
         count: image[at + 3],
+        turns,
     })
 }
 
@@ -69,14 +85,15 @@ fn entries_in(shape: Shape, image: &[u8]) -> Entries
     requires { ⌜ startOf shape recordKinds ≤ length (now image) ⌝ }
     ensures { λ r. ⌜ (r .read ≡ allBelow 8 (λ t. isEntry (entryIn shape (now (image .entry)) t))) × (r .threads ≡ threadsIn shape (now (image .entry))) ⌝ }
 {
-    let zero = Thread::of_status(Status::Idle);
-    let row = row_of(shape, Kind::Th);
+    let zero = Thread::new(Status::Idle, 0);
+    let form = shape.form;
+    let row = row_of(shape, Kind::Ti);
     let size = record_size(row);
-    let mut at = first_body(shape, Kind::Th);
+    let mut at = first_body(shape, Kind::Ti);
     let mut read = true;
     let mut threads = [zero; 8];
     for t in 0..8usize {
-        let entry = entry_at(image, at);
+        let entry = entry_at(form, image, at);
         read = read & is_entry(entry);
         threads[t] = entry_or_zero(entry);
         at += size;

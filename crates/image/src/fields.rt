@@ -6,12 +6,13 @@ ghost use Rattle.image.specs.Fields.{fields, sameFields, fieldsOf, check
 use machine::Status;
 use machine::Thread;
 
-// The numbers of an entry, 0 where its status does not carry them.
+// The numbers of an entry, 0 where its status does not carry them; every entry has a count of turns.
 pub struct ThreadFields {
     pub status: u8,
     pub reason: u8,
     pub id: u8,
     pub count: u8,
+    pub turns: u32,
 }
 
 // What an entry's numbers are read as.
@@ -21,14 +22,15 @@ pub enum EntryReading {
 }
 
 // The numbers by their places.
-fn numbers(status: u8, reason: u8, id: u8, count: u8) -> ThreadFields
-    ensures { λ r. ⌜ r ≡ fields status reason id count ⌝ }
+fn numbers(status: u8, reason: u8, id: u8, count: u8, turns: u32) -> ThreadFields
+    ensures { λ r. ⌜ r ≡ fields status reason id count turns ⌝ }
 {
     ThreadFields {
         status,
         reason,
         id,
         count,
+        turns,
     }
 }
 
@@ -36,7 +38,11 @@ fn numbers(status: u8, reason: u8, id: u8, count: u8) -> ThreadFields
 fn same_fields(a: ThreadFields, b: ThreadFields) -> bool
     ensures { λ r. ⌜ r ≡ sameFields a b ⌝ }
 {
-    (a.status == b.status) & (a.reason == b.reason) & (a.id == b.id) & (a.count == b.count)
+    (a.status == b.status)
+        & (a.reason == b.reason)
+        & (a.id == b.id)
+        & (a.count == b.count)
+        & (a.turns == b.turns)
 }
 
 // The numbers of an entry.
@@ -44,12 +50,13 @@ pub fn fields_of(thread: Thread) -> ThreadFields
     ensures { λ r. ⌜ r ≡ fieldsOf thread ⌝ }
 {
     let status = thread.status;
+    let turns = thread.turns;
     match status {
-        Status::Idle => numbers(0, 0, 0, 0),
-        Status::Running => numbers(1, 0, 0, 0),
-        Status::Ended => numbers(2, 0, 0, 0),
-        Status::Trapped(reason) => numbers(3, reason, 0, 0),
-        Status::Waiting(id, count) => numbers(4, 0, id, count),
+        Status::Idle => numbers(0, 0, 0, 0, turns),
+        Status::Running => numbers(1, 0, 0, 0, turns),
+        Status::Ended => numbers(2, 0, 0, 0, turns),
+        Status::Trapped(reason) => numbers(3, reason, 0, 0, turns),
+        Status::Waiting(id, count) => numbers(4, 0, id, count, turns),
     }
 }
 
@@ -57,7 +64,7 @@ pub fn fields_of(thread: Thread) -> ThreadFields
 fn accept(status: Status, fields: ThreadFields) -> EntryReading
     ensures { λ r. ⌜ entryAnswered r ≡ checkedThread fields (some status) ⌝ }
 {
-    let thread = Thread::of_status(status);
+    let thread = Thread::new(status, fields.turns);
     if same_fields(fields_of(thread), fields) {
         return EntryReading::Entry(thread);
     }

@@ -18,3 +18,4 @@ pub use outcome::WriteAnswer;
 pub use reading::read;
 pub use verdicts::Judgement;
 pub use writing::write;
+pub use writing::write_old;

@@ -1,4 +1,4 @@
-// The machine record alone, as the bytes that an image opens with: written and read.
+// The machine record alone, as the bytes that an image of the newest form opens with: written and read.
 ghost use mathlib.Core.Path.{_≡_};
 ghost use lib.ListN.{length};
 ghost use Rattle.image.specs.Opening.{recordBytes, recordLength, judged, readOpening};
@@ -7,24 +7,28 @@ use crate::heads::kinds_stand;
 use crate::verdicts::Judgement;
 use crate::verdicts::judge_content;
 use crate::writing::put_section;
+use image_layout::Form;
 use image_layout::Kind;
 use image_layout::RECORD_KINDS;
 use image_layout::Shape;
 use machine::Machine;
 
 // How many bytes a machine record has.
-pub const RECORD_LENGTH: usize = 60;
+pub const RECORD_LENGTH: usize = 92;
 
-// HD and TH stored. They hold no word of the register file and no byte of memory.
+// HD and TI stored. They hold no word of the register file and no byte of memory.
 fn put_opening(machine: Machine, buffer: &mut [u8])
     requires { ⌜ length (now buffer) ≡ recordLength ⌝ }
     ensures { λ _. ⌜ now (buffer .exit) ≡ recordBytes machine ⌝ }
 {
     let registers: [u32; 0] = [];
     let memory: [u8; 0] = [];
-    let shape = Shape { blocks: 0 };
+    let shape = Shape {
+        form: Form::Newest,
+        blocks: 0,
+    };
     let next = put_section(shape, Kind::Hd, &registers, &memory, machine, buffer, 0);
-    put_section(shape, Kind::Th, &registers, &memory, machine, buffer, next);
+    put_section(shape, Kind::Ti, &registers, &memory, machine, buffer, next);
 }
 
 // A machine record is written, whether or not it is well formed.
@@ -39,7 +43,10 @@ fn judge_opening(bytes: &[u8]) -> Judgement
     requires { ⌜ length (now bytes) ≡ recordLength ⌝ }
     ensures { λ r. ⌜ judged r ≡ readOpening (now (bytes .entry)) ⌝ }
 {
-    let shape = Shape { blocks: 0 };
+    let shape = Shape {
+        form: Form::Newest,
+        blocks: 0,
+    };
     judge_content(
         kinds_stand(shape, RECORD_KINDS, bytes),
         record_in(shape, bytes),

@@ -13,12 +13,13 @@ use crate::bytes::take_words;
 use crate::outcome::Read;
 use crate::outcome::ReadAnswer;
 use crate::verdicts::judge_records;
-use answer::FIXED_PART;
 use answer::Verdict;
 use answer::sizes_verdict;
 use image_layout::Kind;
 use image_layout::Shape;
 use image_layout::first_body;
+use image_layout::fixed_part;
+use image_layout::form_of;
 use image_layout::record_size;
 use image_layout::row_of;
 use machine::Machine;
@@ -90,11 +91,12 @@ fn read_sized(shape: Shape, image: &[u8], registers: &mut [u32], memory: &mut [u
     }
 }
 
-// The machine that an image holds is restored, if the lengths are right.
+// The machine that an image holds, in the form that its length says, is restored, if the lengths are right.
 pub fn read(image: &[u8], registers: &mut [u32], memory: &mut [u8]) -> Read
     ensures { λ r. ⌜ restored r (now (registers .exit)) (now (memory .exit)) ≡ read (now (image .entry)) (now (registers .entry)) (now (memory .entry)) ⌝ }
 {
-    let sizes = sizes_verdict(FIXED_PART, registers.len(), memory.len(), image.len());
+    let form = form_of(image.len());
+    let sizes = sizes_verdict(fixed_part(form), registers.len(), memory.len(), image.len());
     match sizes {
         Verdict::Refused(number) => Read {
             answer: ReadAnswer::Refused(number),
@@ -102,6 +104,7 @@ pub fn read(image: &[u8], registers: &mut [u32], memory: &mut [u8]) -> Read
         },
         Verdict::Accepted => {
             let shape = Shape {
+                form,
                 blocks: (memory.len() / 64) as u16,
             };
             read_sized(shape, image, registers, memory)

@@ -4,34 +4,54 @@ ghost use mathlib.Core.Path.{_≡_};
 ghost use lib.ListN.{length};
 ghost use Rattle.machine.specs.State.{state};
 ghost use Rattle.image_layout.specs.Join.{Grown};
-ghost use Rattle.image_layout.specs.Layout.{rowOf, kinds, recordSize, extentOf, recordOf, sectionOf, laidOut, startOf};
-ghost use Rattle.image.specs.Calls.{written, write};
-ghost use Rattle.image.specs.Image.{Lengths, Suits, fieldBytes, bodyOf};
+ghost use Rattle.image_layout.specs.Layout.{threadRow, rowOf, kinds, recordSize, extentOf, recordOf, sectionOf, laidOut, startOf};
+ghost use Rattle.image.specs.Calls.{written, writeAs, write, writeOld};
+ghost use Rattle.image.specs.Image.{Lengths, Suits, statusBytes, fieldBytes, bodyOf};
 use crate::bytes::copy_eights;
+use crate::bytes::put_word;
 use crate::bytes::put_words;
 use crate::fields::ThreadFields;
 use crate::fields::fields_of;
 use crate::heads::put_head;
 use crate::outcome::WriteAnswer;
-use answer::FIXED_PART;
+use crate::verdicts::judge_record;
 use answer::Verdict;
+use answer::first_refusal;
 use answer::sizes_verdict;
+use image_layout::Form;
 use image_layout::KINDS;
 use image_layout::Kind;
 use image_layout::Shape;
+use image_layout::fixed_part;
 use image_layout::kind_at;
 use image_layout::row_of;
 use machine::Machine;
 
-// An entry's numbers stored from a place on.
-fn put_fields(fields: ThreadFields, buffer: &mut [u8], at: usize)
+// The numbers of an entry's status stored from a place on.
+fn put_status(fields: ThreadFields, buffer: &mut [u8], at: usize)
     requires { ⌜ at + 4 ≤ length (now buffer) ⌝ }
-    ensures { λ _. ⌜ Grown (now (buffer .entry)) (now (buffer .exit)) at (at + 4) (fieldBytes fields) ⌝ }
+    ensures { λ _. ⌜ Grown (now (buffer .entry)) (now (buffer .exit)) at (at + 4) (statusBytes fields) ⌝ }
 {
     buffer[at] = fields.status;
     buffer[at + 1] = fields.reason;
     buffer[at + 2] = fields.id;
     buffer[at + 3] = fields.count;
+}
+
+// An entry's numbers, as far as a form has them, stored from a place on; the next place.
+fn put_fields(form: Form, fields: ThreadFields, buffer: &mut [u8], at: usize) -> usize
+    requires { ⌜ at + threadRow form .size ≤ length (now buffer) ⌝ }
+    ensures { λ r. ⌜ Grown (now (buffer .entry)) (now (buffer .exit)) at r (fieldBytes form fields) ⌝ }
+{
+    let turns = fields.turns;
+    put_status(fields, buffer, at);
+    match form {
+        Form::Newest => {
+            put_word(turns, buffer, at + 4);
+            at + 8
+        }
+        Form::Old => at + 4,
+    }
 }
 
 // What stands behind the place numbers of record i, stored from a place on; the next place.
@@ -46,18 +66,18 @@ fn put_body(
     at: usize,
 ) -> usize
     requires { ⌜ Suits shape kind (now registers) (now memory) × (i < rowOf shape kind .count) × (at + rowOf shape kind .size ≤ length (now buffer)) ⌝ }
-    ensures { λ r. ⌜ Grown (now (buffer .entry)) (now (buffer .exit)) at r (bodyOf (state machine (now (registers .entry)) (now (memory .entry))) kind i) ⌝ }
+    ensures { λ r. ⌜ Grown (now (buffer .entry)) (now (buffer .exit)) at r (bodyOf (shape .form) (state machine (now (registers .entry)) (now (memory .entry))) kind i) ⌝ }
 {
+    let form = shape.form;
     match kind {
         Kind::Hd => {
             buffer[at] = machine.last;
             buffer[at + 1] = machine.enabled;
             at + 2
         }
-        Kind::Th => {
+        Kind::Ti => {
             let entry = machine.threads[i];
-            put_fields(fields_of(entry), buffer, at);
-            at + 4
+            put_fields(form, fields_of(entry), buffer, at)
         }
         Kind::Sr => {
             put_words(registers, 64 * i, 64, buffer, at);
@@ -86,7 +106,7 @@ fn put_record(
     at: usize,
 ) -> usize
     requires { ⌜ Suits shape kind (now registers) (now memory) × (i < rowOf shape kind .count) × (at + recordSize (rowOf shape kind) ≤ length (now buffer)) ⌝ }
-    ensures { λ r. ⌜ Grown (now (buffer .entry)) (now (buffer .exit)) at r (recordOf (rowOf shape kind) (bodyOf (state machine (now (registers .entry)) (now (memory .entry))) kind) i) ⌝ }
+    ensures { λ r. ⌜ Grown (now (buffer .entry)) (now (buffer .exit)) at r (recordOf (rowOf shape kind) (bodyOf (shape .form) (state machine (now (registers .entry)) (now (memory .entry))) kind) i) ⌝ }
 {
     let row = row_of(shape, kind);
     let next = put_head(row, i, buffer, at);
@@ -104,7 +124,7 @@ pub fn put_section(
     at: usize,
 ) -> usize
     requires { ⌜ Suits shape kind (now registers) (now memory) × (at + extentOf (rowOf shape kind) ≤ length (now buffer)) ⌝ }
-    ensures { λ r. ⌜ Grown (now (buffer .entry)) (now (buffer .exit)) at r (sectionOf (rowOf shape kind) (bodyOf (state machine (now (registers .entry)) (now (memory .entry))) kind)) ⌝ }
+    ensures { λ r. ⌜ Grown (now (buffer .entry)) (now (buffer .exit)) at r (sectionOf (rowOf shape kind) (bodyOf (shape .form) (state machine (now (registers .entry)) (now (memory .entry))) kind)) ⌝ }
 {
     let row = row_of(shape, kind);
     let count = row.count;
@@ -118,7 +138,7 @@ pub fn put_section(
 // Every kind's records.
 fn put_image(shape: Shape, registers: &[u32], memory: &[u8], machine: Machine, buffer: &mut [u8])
     requires { ⌜ Lengths shape (now registers) (now memory) × (startOf shape kinds ≡ length (now buffer)) ⌝ }
-    ensures { λ _. ⌜ now (buffer .exit) ≡ laidOut shape (bodyOf (state machine (now (registers .entry)) (now (memory .entry)))) ⌝ }
+    ensures { λ _. ⌜ now (buffer .exit) ≡ laidOut shape (bodyOf (shape .form) (state machine (now (registers .entry)) (now (memory .entry)))) ⌝ }
 {
     let mut next: usize = 0;
     for position in 0..KINDS {
@@ -134,23 +154,53 @@ fn put_image(shape: Shape, registers: &[u32], memory: &[u8], machine: Machine, b
     }
 }
 
-// The image of a machine is written into a buffer of exactly its length.
-pub fn write(registers: &[u32], memory: &[u8], machine: Machine, buffer: &mut [u8]) -> WriteAnswer
-    ensures { λ r. ⌜ written r (now (buffer .exit)) ≡ write (state machine (now (registers .entry)) (now (memory .entry))) (now (buffer .entry)) ⌝ }
+// The image of a machine in a form is written into a buffer of exactly its length.
+fn write_as(
+    form: Form,
+    dropping: bool,
+    registers: &[u32],
+    memory: &[u8],
+    machine: Machine,
+    buffer: &mut [u8],
+) -> WriteAnswer
+    ensures { λ r. ⌜ written r (now (buffer .exit)) ≡ writeAs form dropping (state machine (now (registers .entry)) (now (memory .entry))) (now (buffer .entry)) ⌝ }
 {
-    let sizes = sizes_verdict(FIXED_PART, registers.len(), memory.len(), buffer.len());
-    match sizes {
+    let sizes = sizes_verdict(
+        fixed_part(form),
+        registers.len(),
+        memory.len(),
+        buffer.len(),
+    );
+    let verdict = first_refusal(sizes, judge_record(form, dropping, machine));
+    match verdict {
         Verdict::Refused(number) => WriteAnswer::Refused(number),
         Verdict::Accepted => {
-            let well_formed = machine.well_formed();
-            if !well_formed {
-                return WriteAnswer::Refused(4);
-            }
             let shape = Shape {
+                form,
                 blocks: (memory.len() / 64) as u16,
             };
             put_image(shape, registers, memory, machine, buffer);
             WriteAnswer::Written
         }
     }
+}
+
+// The image of a machine is written, in the newest form.
+pub fn write(registers: &[u32], memory: &[u8], machine: Machine, buffer: &mut [u8]) -> WriteAnswer
+    ensures { λ r. ⌜ written r (now (buffer .exit)) ≡ write (state machine (now (registers .entry)) (now (memory .entry))) (now (buffer .entry)) ⌝ }
+{
+    write_as(Form::Newest, false, registers, memory, machine, buffer)
+}
+
+// The image of a machine is written in the old form, without its counts of turns: they are 0, or dropping them is allowed.
+pub fn write_old(
+    registers: &[u32],
+    memory: &[u8],
+    machine: Machine,
+    dropping: bool,
+    buffer: &mut [u8],
+) -> WriteAnswer
+    ensures { λ r. ⌜ written r (now (buffer .exit)) ≡ writeOld dropping (state machine (now (registers .entry)) (now (memory .entry))) (now (buffer .entry)) ⌝ }
+{
+    write_as(Form::Old, dropping, registers, memory, machine, buffer)
 }

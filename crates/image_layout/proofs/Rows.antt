@@ -1,15 +1,16 @@
 -- What holds of every row of the table: a case for each kind, once; and the lengths that follow from it.
-use Prim.Native.Nat.{ℕ, zero, suc, _+_, _*_, _≤_, _<_}
+use Prim.Native.Nat.{ℕ, zero, suc, _+_, _*_, _%_, _≤_, _<_}
 use mathlib.Core.List.{List}
 use mathlib.Core.Path.{_≡_, refl, ap}
 use native.Mathlib.Nat.{mul-suc}
 use native.Mathlib.Numerals.{add-one}
 use native.Mathlib.Omega.{arith}
 use lib.ListN.{length, length-append}
-use Rattle.answer.specs.Refusal.{fixedPart, blockRecord}
+use borrow.Author.Tests.{eq-eqb, ne-eqb}
+use Rattle.answer.specs.Refusal.{blockRecord, imageLength}
 use Rattle.image_layout.specs.Join.{total, concatBelow}
-use Rattle.image_layout.specs.Layout.{kinds, rowOf, kindAt, positionIn, orderOf, placesOf, placesLength, headLength, headOf, recordSize, extentOf, recordOf, sectionOf, laidOut, startOf, recordAt}
-use Rattle.image_layout.specs.Types.{Kind, Hd, Th, Sr, Vr, Mm, Places, Nothing, ByThread, ByRegister, ByBlock, Shape, RecordRow}
+use Rattle.image_layout.specs.Layout.{fixedOf, formOf, ofBlocks, kinds, threadRow, rowOf, kindAt, positionIn, orderOf, placesOf, placesLength, headLength, headOf, recordSize, extentOf, recordOf, sectionOf, laidOut, startOf, recordAt}
+use Rattle.image_layout.specs.Types.{Kind, Hd, Ti, Sr, Vr, Mm, Places, Nothing, ByThread, ByRegister, ByBlock, Form, Newest, Old, Shape, RecordRow}
 use Rattle.image_layout.proofs.Join.{length-even, length-concatBelow, total-le, fits-in}
 
 places-length : (p : Places) (i : ℕ) → length (placesOf p i) ≡ placesLength p
@@ -27,16 +28,37 @@ places-few ByBlock = omega arith
 pub head-length : (r : RecordRow) (i : ℕ) → length (headOf r i) ≡ headLength (r .places)
 head-length r i = omega (arith, places-length (r .places) i)
 
+-- the rows of a thread's entry, in each form
+pub threads : (f : Form) → threadRow f .count ≡ 8
+threads Newest = refl
+threads Old = refl
+
+pub by-thread : (f : Form) → threadRow f .places ≡ ByThread
+by-thread Newest = refl
+by-thread Old = refl
+
+pub entry-most : (f : Form) → threadRow f .size ≤ 8
+entry-most Newest = omega arith
+entry-most Old = omega arith
+
+pub entry-least : (f : Form) → 4 ≤ threadRow f .size
+entry-least Newest = omega arith
+entry-least Old = omega arith
+
+entries-few : (f : Form) → extentOf (threadRow f) ≤ 88
+entries-few Newest = omega arith
+entries-few Old = omega arith
+
 pub size-few : (s : Shape) (k : Kind) → rowOf s k .size ≤ 256
 size-few s Hd = omega arith
-size-few s Th = omega arith
+size-few s Ti = omega (arith, entry-most (s .form))
 size-few s Sr = omega arith
 size-few s Vr = omega arith
 size-few s Mm = omega arith
 
 pub extent-few : (s : Shape) (k : Kind) → s .blocks ≤ 65535 → extentOf (rowOf s k) ≤ 4456380
 extent-few s Hd h = omega arith
-extent-few s Th h = omega arith
+extent-few s Ti h = omega (arith, entries-few (s .form))
 extent-few s Sr h = omega arith
 extent-few s Vr h = omega arith
 extent-few s Mm h = omega arith
@@ -45,7 +67,7 @@ extent-few s Mm h = omega arith
 pub kind-order : (k : Kind) → kindAt (orderOf k) ≡ k
 unfolding orderOf positionIn
 kind-order Hd = refl
-kind-order Th = refl
+kind-order Ti = refl
 kind-order Sr = refl
 kind-order Vr = refl
 kind-order Mm = refl
@@ -53,7 +75,7 @@ kind-order Mm = refl
 pub order-few : (k : Kind) → orderOf k < kinds
 unfolding orderOf positionIn
 order-few Hd = omega arith
-order-few Th = omega arith
+order-few Ti = omega arith
 order-few Sr = omega arith
 order-few Vr = omega arith
 order-few Mm = omega arith
@@ -67,14 +89,14 @@ past-kinds (suc (suc (suc zero))) h = absurd (omega arith)
 past-kinds (suc (suc (suc (suc zero)))) h = absurd (omega arith)
 past-kinds (suc (suc (suc (suc (suc q))))) h = refl
 
--- HD and TH are the first two
+-- HD and TI are the first two
 pub hd-order : orderOf Hd ≡ 0
 unfolding orderOf positionIn
 hd-order = refl
 
-pub th-order : orderOf Th ≡ 1
+pub ti-order : orderOf Ti ≡ 1
 unfolding orderOf positionIn
-th-order = refl
+ti-order = refl
 
 -- Lengths, over any row.
 
@@ -96,9 +118,22 @@ pub record-next : (r : RecordRow) (at i : ℕ) → recordAt r at i + recordSize 
 record-next r at i = omega (arith, mul-suc (recordSize r) i, ap (λ n. recordSize r * n) (add-one i))
 
 -- the whole length, as the paper says it
-pub whole-length : (s : Shape) → startOf s kinds ≡ fixedPart + blockRecord * s .blocks
+whole : (f : Form) (blocks : ℕ) → startOf (ofBlocks f blocks) kinds ≡ fixedOf f + blockRecord * blocks
 unfolding startOf total
-whole-length s = omega arith
+whole Newest blocks = omega arith
+whole Old blocks = omega arith
+
+pub whole-length : (s : Shape) → startOf s kinds ≡ fixedOf (s .form) + blockRecord * s .blocks
+whole-length s = whole (s .form) (s .blocks)
+
+pub fixed-few : (f : Form) → fixedOf f ≤ 36980
+fixed-few Newest = omega arith
+fixed-few Old = omega arith
+
+-- and it says the form
+pub form-told : (f : Form) (bytes : ℕ) → formOf (imageLength (fixedOf f) bytes) ≡ f
+form-told Newest bytes = rw (ne-eqb (imageLength (fixedOf Newest) bytes % blockRecord) 24 (λ e. omega arith))
+form-told Old bytes = rw (eq-eqb (imageLength (fixedOf Old) bytes % blockRecord) 24 (omega arith))
 
 -- where kinds begin, one after the other, and that each ends within the image
 pub start-none : (s : Shape) → 0 ≡ startOf s 0

@@ -4,13 +4,24 @@ use mathlib.Core.Bool.{Bool, true, _&&_, cond}
 use mathlib.Core.List.{List, [], _∷_, _++_}
 use lib.Dec.{leb, eqb}
 use lib.ListN.{length, getD, take, drop}
+use Rattle.answer.specs.Refusal.{fixedPart, oldFixedPart, blockRecord}
 use Rattle.image_layout.specs.Join.{concatBelow, total, allBelow}
-use Rattle.image_layout.specs.Types.{Kind, Hd, Th, Sr, Vr, Mm, Places, Nothing, ByThread, ByRegister, ByBlock, Shape, RecordRow}
+use Rattle.image_layout.specs.Types.{Kind, Hd, Ti, Sr, Vr, Mm, Places, Nothing, ByThread, ByRegister, ByBlock, Form, Newest, Old, Shape, RecordRow}
+
+-- The forms: "TH becomes TI, four bytes longer at its end; the fixed part is 36,980 bytes." "The old form can be written back" (02, T-05).
+
+abbrev pub fixedOf : Form → ℕ
+fixedOf Newest = fixedPart
+fixedOf Old = oldFixedPart
+
+-- "Refusal 9 knows both lengths": the length says the form, since the fixed parts differ by no multiple of a block's record
+abbrev pub formOf : ℕ → Form
+formOf size = cond (eqb (size % blockRecord) (oldFixedPart % blockRecord)) Old Newest
 
 -- The table.
 
-abbrev pub ofBlocks : ℕ → Shape
-ofBlocks blocks = record { blocks = blocks }
+abbrev pub ofBlocks : Form → ℕ → Shape
+ofBlocks form blocks = record { form = form; blocks = blocks }
 
 abbrev row : ℕ → ℕ → Places → ℕ → ℕ → RecordRow
 row first second places count size = record { first = first; second = second; places = places; count = count; size = size }
@@ -18,16 +29,21 @@ row first second places count size = record { first = first; second = second; pl
 -- "Each record opens with a two-byte mark, in this order: HD, last, enabled; eight TH: thread, status, reason, id, count ..; eight SR:
 -- thread, 64 words; 512 VR: thread, register, 16 words; MM for each 64-byte block: block number in two bytes, 64 bytes."
 -- Of each kind: its mark in ASCII, its place numbers, how many records there are, and the bytes behind the place numbers of one.
+-- "TH becomes TI, four bytes longer at its end" (02, T-05)
+abbrev pub threadRow : Form → RecordRow
+threadRow Newest = row 84 73 ByThread 8 8
+threadRow Old = row 84 72 ByThread 8 4
+
 abbrev pub rowOf : Shape → Kind → RecordRow
 rowOf s Hd = row 72 68 Nothing 1 2
-rowOf s Th = row 84 72 ByThread 8 4
+rowOf s Ti = threadRow (s .form)
 rowOf s Sr = row 83 82 ByThread 8 256
 rowOf s Vr = row 86 82 ByRegister 512 64
 rowOf s Mm = row 77 77 ByBlock (s .blocks) 64
 
 -- "in this order": the kinds; how many there are, and which stands at a position
 abbrev pub order : List Kind
-order = Hd ∷ Th ∷ Sr ∷ Vr ∷ Mm ∷ []
+order = Hd ∷ Ti ∷ Sr ∷ Vr ∷ Mm ∷ []
 
 abbrev pub kinds : ℕ
 kinds = length order
@@ -35,7 +51,7 @@ kinds = length order
 abbrev pub kindAt : ℕ → Kind
 kindAt q = getD order q Hd
 
--- the first of them, HD and TH, hold the machine record
+-- the first of them, HD and TI, hold the machine record
 abbrev pub recordKinds : ℕ
 recordKinds = 2
 
@@ -46,7 +62,7 @@ sameMark r q = eqb (r .first) (q .first) && eqb (r .second) (q .second)
 -- the position of a kind: that of the first with its mark
 unfoldable pub positionIn : List Kind → Kind → ℕ
 positionIn [] k = 0
-positionIn (x ∷ xs) k = cond (sameMark (rowOf (ofBlocks 0) x) (rowOf (ofBlocks 0) k)) 0 (1 + positionIn xs k)
+positionIn (x ∷ xs) k = cond (sameMark (rowOf (ofBlocks Newest 0) x) (rowOf (ofBlocks Newest 0) k)) 0 (1 + positionIn xs k)
 
 unfoldable pub orderOf : Kind → ℕ
 orderOf k = positionIn order k

@@ -1,11 +1,14 @@
 // The layout of an image: a table of record kinds, and the fixed places that follow from it.
 ghost use mathlib.Core.Path.{_≡_};
-ghost use Rattle.image_layout.specs.Layout.{rowOf, kindAt, orderOf, headLength, recordSize, extentOf, startOf, bodyPlace};
+ghost use Rattle.image_layout.specs.Layout.{fixedOf, formOf, threadRow, rowOf, kindAt, orderOf, headLength, recordSize, extentOf, startOf, bodyPlace};
+use answer::BLOCK_RECORD;
+use answer::FIXED_PART;
+use answer::OLD_FIXED_PART;
 
-// The kinds of records.
+// The kinds of records. Ti is TH in the old form.
 pub enum Kind {
     Hd,
-    Th,
+    Ti,
     Sr,
     Vr,
     Mm,
@@ -19,8 +22,15 @@ pub enum Places {
     ByBlock,
 }
 
-// What the layout goes by: the 64-byte blocks of memory.
+// The forms of an image: the newest, and the one that holds no counts of turns.
+pub enum Form {
+    Newest,
+    Old,
+}
+
+// What the layout goes by: the form, and the 64-byte blocks of memory.
 pub struct Shape {
+    pub form: Form,
     pub blocks: u16,
 }
 
@@ -34,7 +44,7 @@ pub struct RecordRow {
 }
 
 // Their order in the image.
-const ORDER: [Kind; 5] = [Kind::Hd, Kind::Th, Kind::Sr, Kind::Vr, Kind::Mm];
+const ORDER: [Kind; 5] = [Kind::Hd, Kind::Ti, Kind::Sr, Kind::Vr, Kind::Mm];
 
 // How many kinds there are.
 pub const KINDS: usize = ORDER.len();
@@ -58,10 +68,40 @@ fn order_of(kind: Kind) -> usize
 {
     match kind {
         Kind::Hd => 0,
-        Kind::Th => 1,
+        Kind::Ti => 1,
         Kind::Sr => 2,
         Kind::Vr => 3,
         Kind::Mm => 4,
+    }
+}
+
+// The fixed part of the length of a form's image.
+pub fn fixed_part(form: Form) -> u32
+    ensures { λ r. ⌜ r ≡ fixedOf form ⌝ }
+{
+    match form {
+        Form::Newest => FIXED_PART,
+        Form::Old => OLD_FIXED_PART,
+    }
+}
+
+// The form of an image of so many bytes, if any has so many.
+pub fn form_of(size: usize) -> Form
+    ensures { λ r. ⌜ r ≡ formOf size ⌝ }
+{
+    if size % BLOCK_RECORD == OLD_FIXED_PART as usize % BLOCK_RECORD {
+        return Form::Old;
+    }
+    Form::Newest
+}
+
+// The row of a thread's entry.
+fn thread_row(form: Form) -> RecordRow
+    ensures { λ r. ⌜ r ≡ threadRow form ⌝ }
+{
+    match form {
+        Form::Newest => row_with(b'T', b'I', Places::ByThread, 8, 8),
+        Form::Old => row_with(b'T', b'H', Places::ByThread, 8, 4),
     }
 }
 
@@ -69,10 +109,11 @@ fn order_of(kind: Kind) -> usize
 pub fn row_of(shape: Shape, kind: Kind) -> RecordRow
     ensures { λ r. ⌜ r ≡ rowOf shape kind ⌝ }
 {
+    let form = shape.form;
     let blocks = shape.blocks as usize;
     match kind {
         Kind::Hd => row_with(b'H', b'D', Places::Nothing, 1, 2),
-        Kind::Th => row_with(b'T', b'H', Places::ByThread, 8, 4),
+        Kind::Ti => thread_row(form),
         Kind::Sr => row_with(b'S', b'R', Places::ByThread, 8, 256),
         Kind::Vr => row_with(b'V', b'R', Places::ByRegister, 512, 64),
         Kind::Mm => row_with(b'M', b'M', Places::ByBlock, blocks, 64),

@@ -3,6 +3,7 @@ mod heads;
 mod layout;
 
 pub use heads::head_stands;
+pub use layout::Form;
 pub use layout::KINDS;
 pub use layout::Kind;
 pub use layout::Places;
@@ -11,6 +12,8 @@ pub use layout::RecordRow;
 pub use layout::Shape;
 pub use layout::extent_of;
 pub use layout::first_body;
+pub use layout::fixed_part;
+pub use layout::form_of;
 pub use layout::kind_at;
 pub use layout::record_size;
 pub use layout::row_of;

@@ -1,5 +1,5 @@
 -- Demand 3 and the claims of specs/, proved.
-pub use Rattle.interpreter.proofs.Starts.{starts, start-rooms}
+pub use Rattle.interpreter.proofs.Starts.{starts, start-rooms, starts-uncounted}
 pub use Rattle.interpreter.proofs.Runs.{
   stays-well-formed,
   mask-stays,
@@ -13,4 +13,5 @@ pub use Rattle.interpreter.proofs.Runs.{
 }
 pub use Rattle.interpreter.proofs.Endings.{ends-by-record}
 pub use Rattle.interpreter.proofs.Fairness.{some-enabled, eight-at-most, turns-fair, demand}
+pub use Rattle.interpreter.proofs.Turns.{turns-counted}
 pub use Rattle.interpreter.proofs.Figures.{figures-hold}

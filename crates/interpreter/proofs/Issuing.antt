@@ -4,17 +4,19 @@ use mathlib.Core.Bool.{Bool, true, false, cond}
 use mathlib.Core.List.{List, [], _∷_}
 use mathlib.Core.Path.{_≡_, refl, sym, ap, _∙_}
 use native.Mathlib.Omega.{arith}
-use lib.ListN.{length}
+use lib.ListN.{length, getD, set}
 use Rattle.answer.specs.Answer.{given}
-use Rattle.execution.proofs.Claims.{performs, untouched, issues as execution-issues}
-use Rattle.execution.specs.Issue.{issue, issueSetsStatus}
-use Rattle.machine.specs.State.{State, state}
-use Rattle.machine.proofs.Claims.{chooses, issues as machine-issues}
+use Rattle.execution.proofs.Claims.{performs, untouched, recounts, issues as execution-issues}
+use Rattle.execution.specs.Issue.{perform, issue, issueSetsStatus}
+use Rattle.machine.specs.Machine.{turnsAt, oneMore}
+use Rattle.machine.specs.State.{State, state, countedIn, recounted}
+use Rattle.machine.proofs.Claims.{chooses, issues as machine-issues, counts-kept, counts-unseen, counting}
+use Rattle.machine.proofs.Kept.{running-entry}
 use Rattle.machine.specs.Claims.{KeepsRecord}
 use Rattle.machine.specs.Scheduler.{choice, withLast}
 use Rattle.machine.specs.WellFormed.{wellFormed}
 use Rattle.interpreter.specs.Answer.{spent}
-use Rattle.interpreter.specs.Choosing.{ifChosen, issued, issues, reachedBy, reached, idleEnding, endingAt}
+use Rattle.interpreter.specs.Choosing.{ifChosen, performed, issued, issues, reachedBy, reached, idleEnding, endingAt}
 use Rattle.interpreter.specs.Run.{acceptedRun}
 use Rattle.interpreter.specs.Stretch.{Carried, Over}
 use Rattle.interpreter.specs.Types.{Machine, Choice, Chosen, NoneRunning}
@@ -23,25 +25,43 @@ use Rattle.interpreter.specs.Types.{Machine, Choice, Chosen, NoneRunning
 pub chosen-thread : (m : Machine) (t d : ℕ) → choice m ≡ Chosen t d → t < 8
 chosen-thread m t d h = let f = chooses m t d .0 h in omega (arith, f .place)
 
--- the call that performs an issue, on the record with which the thread chosen is issued
-pub issue-performed : (p : List ℕ) (s : State) (t d : ℕ) (m : Machine) → length p ≤ 16384 → length (s .registers) ≡ 8704
-    → choice (s .machine) ≡ Chosen t d → m ≡ withLast (s .machine) t → issue p (state m (s .registers) (s .memory)) t ≡ issued p s t
+-- the counts after an issue of a thread
+abbrev pub raised : List ℕ → ℕ → List ℕ
+raised turns t = set turns t (oneMore (getD turns t 0))
+
+-- the counts stand beside the record: it is the same thread that is chosen
+pub chosen-beside : (s : State) (turns : List ℕ) {c : Choice} → choice (s .machine) ≡ c → choice (recounted s turns .machine) ≡ c
+chosen-beside s turns h = counts-unseen .choices (s .machine) turns ∙ h
+
+-- and the call that performs its issue, on the record with which it is issued and told its count, makes the rules' issue of it
+pub issue-performed : (p : List ℕ) (s : State) (turns : List ℕ) (t d : ℕ) (m : Machine) → length p ≤ 16384 → length (s .registers) ≡ 8704
+    → length turns ≡ 8 → choice (s .machine) ≡ Chosen t d → m ≡ withLast (s .machine) t
+    → recounted (issue p (state m (s .registers) (s .memory)) t (getD turns t 0)) (raised turns t) ≡ issued p (recounted s turns) t
 unfolding issued
-issue-performed p s t d m words regs h e =
-    ap (λ x. issue p (state x (s .registers) (s .memory)) t) e
-    ∙ execution-issues p (state (withLast (s .machine) t) (s .registers) (s .memory)) t words regs (chosen-thread (s .machine) t d h)
+issue-performed p s turns t d m words regs size h e =
+    let l = chosen-thread (s .machine) t d h in
+    let from = state (withLast (s .machine) t) (s .registers) (s .memory) in
+    let had = counts-kept .put-at (s .machine) turns t (running-entry (s .machine) t (chooses (s .machine) t d .0 h .running)) in
+    ap (λ x. recounted (issue p (state x (s .registers) (s .memory)) t (getD turns t 0)) (raised turns t)) e
+    ∙ ap (λ (n : State). recounted n (raised turns t)) (execution-issues p from t (getD turns t 0) words regs l)
+    ∙ ap (λ m. state m (perform p from t (getD turns t 0) .registers) (perform p from t (getD turns t 0) .memory))
+    (sym (counts-kept .one-more (perform p from t (getD turns t 0) .machine) turns t (omega (arith, size))))
+    ∙ ap (λ n. countedIn n t) (sym (recounts p from turns t (getD turns t 0)))
+    ∙ ap (λ n. countedIn (perform p (recounted from turns) t n) t) (sym had)
 
 -- an issue that sets no status comes to the record on which the thread was issued
-pub issue-untouched : (p : List ℕ) (s after : State) (t : ℕ) → after ≡ issue p s t → (changed : Bool) → changed ≡ issueSetsStatus p s t →
-    changed ≡ false → state (s .machine) (after .registers) (after .memory) ≡ issue p s t
-issue-untouched p s after t e changed k h =
-    let same : after .machine ≡ s .machine = ap (λ (n : State). n .machine) e ∙ untouched p s t (sym k ∙ h) in
+pub issue-untouched : (p : List ℕ) (s after : State) (t turns : ℕ) → after ≡ issue p s t turns → (changed : Bool)
+    → changed ≡ issueSetsStatus p s t turns → changed ≡ false → state (s .machine) (after .registers) (after .memory) ≡ issue p s t turns
+issue-untouched p s after t turns e changed k h =
+    let same : after .machine ≡ s .machine = ap (λ (n : State). n .machine) e ∙ untouched p s t turns (sym k ∙ h) in
     ap (λ (m : Machine). state m (after .registers) (after .memory)) (sym same) ∙ e
 
 -- what an issue makes of the record
 pub issued-sound : (p : List ℕ) (s : State) (t : ℕ) → KeepsRecord (withLast (s .machine) t) t (issued p s t .machine)
 unfolding issued
-issued-sound p s t = performs p (state (withLast (s .machine) t) (s .registers) (s .memory)) t
+issued-sound p s t =
+    let from = state (withLast (s .machine) t) (s .registers) (s .memory) in
+    counting .keeps (withLast (s .machine) t) (performed p s t .machine) t (performs p from t (turnsAt (s .machine) t))
 
 pub issued-well-formed : (p : List ℕ) (s : State) (t d : ℕ) → choice (s .machine) ≡ Chosen t d → wellFormed (s .machine) ≡ true
     → wellFormed (issued p s t .machine) ≡ true
@@ -105,16 +125,20 @@ module _ (p : List ℕ) (b : ℕ) (first : State) (made : ℕ) (s : State) (k : 
       let g : length (issues p (b - made) s) ≡ suc (length (issues p (b - (made + 1)) (issued p s t))) = rw e (ap length (issues-step p s t d h (b - (made + 1)))) in
       record { state = k .state ∙ f; count = omega (arith, k .count, g) }
 
-  -- the same of the call that performs it, on the record m with which the thread chosen is issued
-  pub carried-issue : (t d : ℕ) (m : Machine) (after : State) → length p ≤ 16384 → length (s .registers) ≡ 8704 → choice (s .machine) ≡ Chosen t d
-      → m ≡ withLast (s .machine) t → made < b → after ≡ issue p (state m (s .registers) (s .memory)) t → Carried p b first (made + 1) after
-  carried-issue t d m after words regs h e l i = rw (i ∙ issue-performed p s t d m words regs h e) (carried-step t d h l)
-
   -- and more of them, from there with what is left of the budget
   pub carried-on : (more : ℕ) (t : State) → Carried p (b - made) s more t → Carried p b first (made + more) t
   carried-on more t j =
       let e : b - made - more ≡ b - (made + more) = omega arith in
       record { state = k .state ∙ j .state ∙ ap (λ n. reached p n t) e; count = rw (← e) (omega (arith, k .count, j .count)) }
+
+-- the same of the call that performs it, on the record m with which the thread chosen is issued, with the counts beside it
+pub carried-issue : (p : List ℕ) (b : ℕ) (first : State) (made : ℕ) (s : State) (turns : List ℕ) → Carried p b first made (recounted s turns)
+    → (t d : ℕ) (m : Machine) (after : State) → length p ≤ 16384 → length (s .registers) ≡ 8704 → length turns ≡ 8
+    → choice (s .machine) ≡ Chosen t d → m ≡ withLast (s .machine) t → made < b
+    → after ≡ issue p (state m (s .registers) (s .memory)) t (getD turns t 0) → Carried p b first (made + 1) (recounted after (raised turns t))
+carried-issue p b first made s turns k t d m after words regs size h e l i =
+    rw (ap (λ (n : State). recounted n (raised turns t)) i ∙ issue-performed p s turns t d m words regs size h e)
+    (carried-step p b first made (recounted s turns) k t d (chosen-beside s turns h) l)
 
 -- what the run answers, where it ends after these
 pub ends : (p : List ℕ) (b : ℕ) (first : State) (made : ℕ) (s : State) → Carried p b first made s → (more : ℕ) (t : State) → Carried p (b - made) s more t

@@ -6,6 +6,7 @@ pub mod RoundRobin
 pub mod Fairness
 pub mod Runs
 pub mod Endings
+pub mod Turns
 pub mod Starts
 pub mod Figures
 pub mod Claims

@@ -5,15 +5,16 @@ use mathlib.Core.Option.{Option, none, some}
 use mathlib.Core.Path.{_≡_, refl, sym, ap, _∙_}
 use native.Mathlib.Decide.{ℕ-discrete}
 use native.Mathlib.Omega.{arith}
-use lib.ListN.{length, getD, set, length-set, length-map, List·getD-map}
+use lib.ListN.{length, getD, set, replicate, length-set, length-map, List·getD-map}
 use lib.Seq.{getD-set-same, getD-set-other}
 use Rattle.answer.specs.Answer.{given, refused}
 use Rattle.machine.proofs.Claims.{started}
-use Rattle.machine.specs.Machine.{zeroed, start as startRecord}
-use Rattle.interpreter.specs.Claims.{Starts, StartRegisters}
+use Rattle.machine.specs.Machine.{zeroThread, turnsAt, zeroed, start as startRecord}
+use Rattle.interpreter.specs.Claims.{Starts, StartsUncounted, StartRegisters}
 use Rattle.answer.specs.Refusal.{refusedOr}
 use Rattle.interpreter.specs.Refusal.{startNumber}
 use Rattle.machine.specs.State.{scalarIndex, laneMaskRegister}
+use Rattle.interpreter.specs.Types.{Thread}
 use Rattle.interpreter.specs.Start.{Beginning, zeroes, withMasks, start}
 use Rattle.interpreter.proofs.Refusals.{start-taken, start-accepted}
 
@@ -34,6 +35,30 @@ starts mask regs h =
     let e = unrefused mask regs h in
     let k = start-taken mask (length regs) e in
     rw (← start-accepted mask regs e) (started mask (k .low) (k .high))
+
+-- Counts of turns.
+
+zero-entries : (n t : ℕ) → getD (replicate n zeroThread) t zeroThread .turns ≡ 0
+zero-entries zero t = refl
+zero-entries (suc n) zero = refl
+zero-entries (suc n) (suc t) = zero-entries n t
+
+started-entries : (mask t : ℕ) → turnsAt (startRecord mask) t ≡ 0
+unfolding startRecord
+started-entries mask t =
+    sym (List·getD-map (λ (e : Thread). e .turns) (startRecord mask .threads) t zeroThread)
+    ∙ List·getD-map (λ (e : Thread). e .turns) (replicate 8 zeroThread) t zeroThread
+    ∙ zero-entries 8 t
+
+pub starts-uncounted : StartsUncounted
+unfolding start
+starts-uncounted mask regs t = go (startNumber mask (length regs))
+  where
+    go : (o : Option ℕ)
+        → turnsAt (refusedOr {A = Beginning} o (λ n. record { answer = refused n; machine = zeroed; registers = regs })
+        (record { answer = given tt; machine = startRecord mask; registers = withMasks 8 (zeroes regs) }) .machine) t ≡ 0
+    go none = started-entries mask t
+    go (some n) = zero-entries 8 t
 
 -- The register file.
 

@@ -3,7 +3,8 @@ use Prim.Native.Nat.{ℕ, zero, suc}
 use mathlib.Core.Bool.{cond}
 use mathlib.Core.List.{List, [], _∷_}
 use Rattle.execution.specs.Issue.{perform}
-use Rattle.machine.specs.State.{State, state}
+use Rattle.machine.specs.Machine.{turnsAt}
+use Rattle.machine.specs.State.{State, state, countedIn}
 use Rattle.machine.specs.Scheduler.{choice, withLast, someWaits}
 use Rattle.interpreter.specs.Answer.{Ending, stopped, stuck, spent}
 use Rattle.interpreter.specs.Types.{Machine, Choice, Chosen, NoneRunning}
@@ -13,9 +14,13 @@ pub record Issue : Type 0 where
   pub before : State
   pub thread : ℕ
 
--- the thread "is issued, once, and becomes "last""
+-- the thread "is issued, once, and becomes "last"": it is told how many turns it had before
+abbrev pub performed : List ℕ → State → ℕ → State
+performed p s t = perform p (state (withLast (s .machine) t) (s .registers) (s .memory)) t (turnsAt (s .machine) t)
+
+-- "Each thread entry gains its issues since start, trapping ones too" (02, T-05): here, and nowhere else, they are counted
 unfoldable pub issued : List ℕ → State → ℕ → State
-issued p s t = perform p (state (withLast (s .machine) t) (s .registers) (s .memory)) t
+issued p s t = countedIn (performed p s t) t
 
 -- by "the first running thread after "last"", if a thread is running
 abbrev pub ifChosen : {A : Type 0} → Choice → (ℕ → A) → A → A

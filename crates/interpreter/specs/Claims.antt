@@ -1,5 +1,5 @@
 -- What is proved of the definitions, for other crates to cite.
-use Prim.Native.Nat.{ℕ, _+_, _<_, _≤_}
+use Prim.Native.Nat.{ℕ, _+_, _%_, _^_, _<_, _≤_}
 use mathlib.Core.Bool.{Bool, true, false}
 use mathlib.Core.List.{List, [], _∷_, _++_}
 use mathlib.Core.Logic.{_↔_}
@@ -8,12 +8,13 @@ use mathlib.Core.Path.{_≡_}
 use lib.ListN.{length, getD}
 use Rattle.answer.specs.Answer.{Answer, given, refused}
 use Rattle.answer.specs.Refusal.{registerWords}
+use Rattle.machine.specs.Machine.{turnsAt}
 use Rattle.machine.specs.State.{State, scalarIndex, laneMaskRegister}
 use Rattle.machine.specs.Scheduler.{runs, waits}
 use Rattle.machine.specs.WellFormed.{wellFormed}
 use Rattle.interpreter.specs.Answer.{Ending, stopped, stuck, spent}
 use Rattle.interpreter.specs.Choosing.{Issue}
-use Rattle.interpreter.specs.Demand.{Fair, enabledThreads}
+use Rattle.interpreter.specs.Demand.{Call, Session, written, made, Fair, enabledThreads}
 use Rattle.interpreter.specs.Run.{number, runIssues, runReached, runAnswer}
 use Rattle.interpreter.specs.Start.{start}
 use Rattle.interpreter.specs.Types.{Machine}
@@ -33,6 +34,10 @@ pub record StartRegister (mask : ℕ) (regs : List ℕ) : Type 0 where
 
 abbrev pub StartRegisters : Type 0
 StartRegisters = (mask : ℕ) (regs : List ℕ) → start mask regs .answer ≡ given tt → StartRegister mask regs
+
+-- and no turn is counted yet; nor is one in the record that a refused start hands back
+abbrev pub StartsUncounted : Type 0
+StartsUncounted = (mask : ℕ) (regs : List ℕ) (t : ℕ) → turnsAt (start mask regs .machine) t ≡ 0
 
 -- A run of a program p, with a budget b, from a state s.
 
@@ -130,3 +135,15 @@ issuesOf (r ∷ rs) = runIssues (r .program) (r .budget) (r .from) ++ issuesOf r
 
 abbrev pub TurnsFair : Type 0
 TurnsFair = (rs : List Begun) (m : Machine) → wellFormed m ≡ true → RecordHandedOn rs m → Fair (issuesOf rs) (enabledThreads m)
+
+-- Counts of turns (02, T-05): "Each thread entry gains its issues since start, trapping ones too, wrapping at 2^32."
+
+-- the machine that a list of calls leaves: what the last of them handed back or left
+abbrev pub leftBy : List Call → State → State
+leftBy [] s = s
+leftBy (c ∷ cs) s = leftBy cs (c .outcome .left)
+
+-- over any list of runs a thread's count is what it was, and the number of its issues written down more, modulo 2^32
+abbrev pub TurnsCounted : Type 0
+TurnsCounted = (calls : List Call) (s : State) → Session calls s → (t : ℕ) → turnsAt (s .machine) t < 2 ^ 32
+    → turnsAt (leftBy calls s .machine) t ≡ (turnsAt (s .machine) t + made t (written calls s)) % 2 ^ 32

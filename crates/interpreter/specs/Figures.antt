@@ -56,10 +56,10 @@ figures =
 
 -- scalar register i of thread 0 after an instruction at address 0, by the rules of one issue
 abbrev afterWord : List ℕ → ℕ → ℕ → ℕ
-afterWord registers word i = scalar (executeWord (context 0 0 1 1) registers [] word .registers) 0 i
+afterWord registers word i = scalar (executeWord (context 0 0 1 1 0) registers [] word .registers) 0 i
 
 abbrev afterInstruction : List ℕ → Instruction → ℕ → ℕ
-afterInstruction registers instruction i = scalar (execute (context 0 0 1 1) registers [] instruction .registers) 0 i
+afterInstruction registers instruction i = scalar (execute (context 0 0 1 1 0) registers [] instruction .registers) 0 i
 
 abbrev pub Holds : Figure → Type 0
 Holds (reads word answer) = read word ≡ answer

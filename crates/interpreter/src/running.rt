@@ -5,7 +5,7 @@ ghost use mathlib.Core.Path.{_≡_};
 ghost use lib.ListN.{length};
 ghost use Rattle.answer.specs.Answer.{given};
 ghost use Rattle.answer.specs.Refusal.{numberOf, programWords, registerWords};
-ghost use Rattle.machine.specs.State.{state};
+ghost use Rattle.machine.specs.State.{state, recounted};
 ghost use Rattle.interpreter.specs.Answer.{stopped, stuck, spent, answered};
 ghost use Rattle.interpreter.specs.Choosing.{idleEnding};
 ghost use Rattle.interpreter.specs.Refusal.{recordNumber, runNumber};
@@ -64,8 +64,8 @@ fn ended(machine: Machine, running: bool, made: u32) -> Run
     }
 }
 
-// Issues in a row: the record that they reach, how many were made, whether the last of them changed a status, and, where it did not
-// and nothing more is issued, whether a thread is running.
+// Issues in a row: the record that they reach, but for its counts of turns, how many were made, whether the last of them changed a
+// status, and, where it did not and nothing more is issued, whether a thread is running.
 pub struct Stretch {
     pub machine: Machine,
     pub made: u32,
@@ -74,16 +74,22 @@ pub struct Stretch {
 }
 
 // Issues up to the first that changes a status. Until then nothing of the record changes but "last", so that the compiler finds the
-// running threads once and not for every issue.
+// running threads once and not for every issue; the counts of turns stand beside it.
 fn make_stretch(
     program: &[u32],
     registers: &mut [u32],
     memory: &mut [u8],
     mut machine: Machine,
+    turns: &mut [u32; 8],
     budget: u32,
 ) -> Stretch
-    requires { ⌜ (length (now program) ≤ programWords) × (length (now registers) ≡ registerWords) ⌝ }
-    ensures { λ r. ⌜ Stretched (now (program .entry)) budget (state machine (now (registers .entry)) (now (memory .entry))) r (state (r .machine) (now (registers .exit)) (now (memory .exit))) ⌝ }
+    requires { ⌜ (length (now program) ≤ programWords) × (length (now registers) ≡ registerWords) × (length (now turns) ≡ 8) ⌝ }
+    ensures { λ r. ⌜
+        Stretched (now (program .entry)) budget
+        (recounted (state machine (now (registers .entry)) (now (memory .entry))) (now (turns .entry))) r
+        (recounted (state (r .machine) (now (registers .exit)) (now (memory .exit))) (now (turns .exit)))
+        × (length (now (turns .exit)) ≡ 8)
+        ⌝ }
 {
     let mut made: u32 = 0;
     loop {
@@ -108,9 +114,13 @@ fn make_stretch(
                         running: true,
                     };
                 }
-                let issued = fast_path::issue(program, registers, memory, next, thread);
+                let issued = fast_path::issue(program, registers, memory, next, thread, turns);
                 let after = issued.machine;
                 let changed = issued.changed;
+                // The thread by its place in the record, so that the compiler need not keep it over the issue.
+                let last = next.last as usize;
+                let has = machine::one_more(turns[last]);
+                turns[last] = has;
                 made += 1;
                 if changed {
                     return Stretch {
@@ -138,13 +148,21 @@ fn make_issues(
     ensures { λ r. ⌜ outcome r (now (registers .exit)) (now (memory .exit)) ≡ acceptedRun (now (program .entry)) budget (state machine (now (registers .entry)) (now (memory .entry))) ⌝ }
 {
     let mut made: u32 = 0;
+    let mut turns = machine.turns();
     loop {
-        let stretch = make_stretch(program, registers, memory, machine, budget - made);
+        let stretch = make_stretch(
+            program,
+            registers,
+            memory,
+            machine,
+            &mut turns,
+            budget - made,
+        );
         let changed = stretch.changed;
         machine = stretch.machine;
         made += stretch.made;
         if !changed {
-            return ended(machine, stretch.running, made);
+            return ended(machine.with_turns(turns), stretch.running, made);
         }
     }
 }

@@ -7,10 +7,10 @@ use native.Mathlib.Decide.{ℕ-discrete, decLt}
 use native.Mathlib.Omega.{arith}
 use borrow.Author.Tests.{le-leb, eqb-true, eq-eqb}
 use lib.ListN.{length, getD, set, length-set, List·getD-eq-default}
-use lib.Seq.{getD-set-same, getD-set-other}
+use lib.Seq.{getD-set-same, getD-set-other, map-set-same}
 use Rattle.bits.specs.Bit.{bit}
 use Rattle.machine.specs.Claims.{WellFormed, KeepsRecord, Traps, Ends, Issued, RunningEnabled}
-use Rattle.machine.specs.Machine.{zeroThread, statusAt, withStatus, withStatusAt, trap, end}
+use Rattle.machine.specs.Machine.{zeroThread, statusAt, withStatus, withStatusAt, turnsOf, trap, end}
 use Rattle.machine.specs.Status.{limits, isIdle, isRunning, isWaiting, waitsAt, carriesInRange}
 use Rattle.machine.specs.WellFormed.{waiting}
 use Rattle.machine.specs.Scheduler.{runs, withLast}
@@ -98,6 +98,10 @@ module _ (m : Machine) (t : ℕ) (s : Status) where
   pub set-entries : length (withStatusAt m t s .threads) ≡ length (m .threads)
   set-entries = length-set (m .threads) t (withStatus (getD (m .threads) t zeroThread) s)
 
+  pub set-turns : turnsOf (withStatusAt m t s) ≡ turnsOf m
+  unfolding turnsOf
+  set-turns = map-set-same (λ entry. entry .turns) (m .threads) t (withStatus (getD (m .threads) t zeroThread) s) zeroThread refl
+
   pub set-running : (u : ℕ) → (u ≡ t → ⊥) → runs m u ≡ true → runs (withStatusAt m t s) u ≡ true
   set-running u n h = ap isRunning (set-other u n) ∙ h
 
@@ -116,7 +120,12 @@ running-thread m t w r = is-thread m (w .entries) t (running-idle (statusAt m t)
 -- a running thread gets a status that is neither idle nor waiting
 calmed : (m : Machine) (t : ℕ) (s : Status) → isIdle s ≡ false → isWaiting s ≡ false → carriesInRange limits s ≡ true → KeepsRecord m t (withStatusAt m t s)
 calmed m t s idle waits carried =
-    record { enabled = refl; last = refl; running = set-running m t s; well-formed = λ h r. tested limits (withStatusAt m t s) .1 (still (tested limits m .0 h) r) }
+    record {
+      enabled = refl;
+      last = refl;
+      running = set-running m t s;
+      well-formed = λ h r. tested limits (withStatusAt m t s) .1 (still (tested limits m .0 h) r);
+    }
   where
     each : WellFormed m → runs m t ≡ true → (u : ℕ) → Dec (u ≡ t)
         → (statusAt (withStatusAt m t s) u ≡ statusAt m u) ⊎ Calm (statusAt m u) (statusAt (withStatusAt m t s) u)

@@ -7,6 +7,7 @@ pub mod Choosing
 pub mod Entries
 pub mod Conditions
 pub mod Kept
+pub mod Turns
 pub mod Meetings
 pub mod Arrivals
 pub mod Starting

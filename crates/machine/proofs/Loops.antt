@@ -1,4 +1,4 @@
--- Laws of the loops over the eight threads: one that searches or counts goes by `from`, one that changes every entry by `restated`.
+-- Laws of the loops over the eight threads: one that searches or counts goes by `from`, one that changes every entry by `changed`.
 use Prim.Native.Nat.{ℕ, zero, suc, _+_, _-_, _<_, _≤_}
 use mathlib.Core.Bool.{Bool, true, false, cond}
 use mathlib.Core.Path.{_≡_, refl, sym, ap, _∙_}
@@ -9,7 +9,7 @@ use borrow.Author.Tests.{eqb-true, eqb-false, ltb-true, ltb-false}
 use lib.Dec.{eqb, ltb}
 use lib.ListN.{length, getD, set}
 use lib.Seq.{set-getD, set-out}
-use Rattle.machine.specs.Machine.{anyThread, countThreads, zeroThread, statusAt, withStatus, withStatusAt}
+use Rattle.machine.specs.Machine.{anyThread, countThreads, zeroThread, statusAt, withStatus, withStatusAt, withCount, withCounts}
 use Rattle.machine.specs.Search.{any, count}
 use Rattle.machine.specs.Types.{Status, Thread, Machine}
 
@@ -79,46 +79,61 @@ module _ (p : ℕ → Bool) where
   unfolding count
   count-done k c l = let f : count p (from k (8 - k)) ≡ 0 = stop (count p) k 8 l refl in omega arith
 
--- the entries with the first t restated: entry u has the status s u
-unfoldable pub restated : (ℕ → Status) → List Thread → ℕ → List Thread
-restated s xs zero = xs
-restated s [] (suc t) = []
-restated s (x ∷ xs) (suc t) = withStatus x (s 0) ∷ restated (λ u. s (suc u)) xs t
+-- the first t entries changed, entry u by f u
+unfoldable pub changed : (ℕ → Thread → Thread) → List Thread → ℕ → List Thread
+changed f xs zero = xs
+changed f [] (suc t) = []
+changed f (x ∷ xs) (suc t) = f 0 x ∷ changed (λ u. f (suc u)) xs t
 
 -- the record so
-abbrev pub restatedTo : (ℕ → Status) → Machine → ℕ → Machine
-restatedTo s m t = record { enabled = m .enabled; last = m .last; threads = restated s (m .threads) t }
+abbrev pub changedTo : (ℕ → Thread → Thread) → Machine → ℕ → Machine
+changedTo f m t = record { enabled = m .enabled; last = m .last; threads = changed f (m .threads) t }
 
-restated-next : (s : ℕ → Status) (xs : List Thread) (t : ℕ) → getD (restated s xs t) t zeroThread ≡ getD xs t zeroThread
-unfolding restated
-restated-next s xs zero = refl
-restated-next s [] (suc t) = refl
-restated-next s (x ∷ xs) (suc t) = restated-next (λ u. s (suc u)) xs t
+changed-next : (f : ℕ → Thread → Thread) (xs : List Thread) (t : ℕ) → getD (changed f xs t) t zeroThread ≡ getD xs t zeroThread
+unfolding changed
+changed-next f xs zero = refl
+changed-next f [] (suc t) = refl
+changed-next f (x ∷ xs) (suc t) = changed-next (λ u. f (suc u)) xs t
 
-restated-suc : (s : ℕ → Status) (xs : List Thread) (t : ℕ) → t < length xs
-    → set (restated s xs t) t (withStatus (getD xs t zeroThread) (s t)) ≡ restated s xs (suc t)
-unfolding restated
-restated-suc s [] t l = absurd (omega arith)
-restated-suc s (x ∷ xs) zero l = refl
-restated-suc s (x ∷ xs) (suc t) l = ap {B = List Thread} (λ r. withStatus x (s 0) ∷ r) (restated-suc (λ u. s (suc u)) xs t (omega arith))
+changed-suc : (f : ℕ → Thread → Thread) (xs : List Thread) (t : ℕ) → t < length xs
+    → set (changed f xs t) t (f t (getD xs t zeroThread)) ≡ changed f xs (suc t)
+unfolding changed
+changed-suc f [] t l = absurd (omega arith)
+changed-suc f (x ∷ xs) zero l = refl
+changed-suc f (x ∷ xs) (suc t) l = ap {B = List Thread} (λ r. f 0 x ∷ r) (changed-suc (λ u. f (suc u)) xs t (omega arith))
 
 -- the next thread's status is as it was
-pub status-next : (s : ℕ → Status) (m : Machine) (t : ℕ) → statusAt (restatedTo s m t) t ≡ statusAt m t
-status-next s m t = ap (λ e. e .status) (restated-next s (m .threads) t)
+pub status-next : (f : ℕ → Thread → Thread) (m : Machine) (t : ℕ) → statusAt (changedTo f m t) t ≡ statusAt m t
+status-next f m t = ap (λ e. e .status) (changed-next f (m .threads) t)
 
--- and restating it makes one more
-pub restate : (s : ℕ → Status) (m : Machine) (t : ℕ) → t < length (m .threads) → withStatusAt (restatedTo s m t) t (s t) ≡ restatedTo s m (t + 1)
-restate s m t l =
+-- and changing it makes one more
+pub change : (f : ℕ → Thread → Thread) (m : Machine) (t : ℕ) → t < length (m .threads)
+    → record { enabled = m .enabled; last = m .last; threads = set (changed f (m .threads) t) t (f t (getD (changed f (m .threads) t) t zeroThread)) } ≡ changedTo f m (t + 1)
+change f m t l =
     ap (λ xs. record { enabled = m .enabled; last = m .last; threads = xs })
-    (ap (λ e. set (restated s (m .threads) t) t (withStatus e (s t))) (restated-next s (m .threads) t)
-    ∙ (restated-suc s (m .threads) t l ∙ ap (restated s (m .threads)) (sym (add-one t))))
+    (ap (λ e. set (changed f (m .threads) t) t (f t e)) (changed-next f (m .threads) t)
+    ∙ (changed-suc f (m .threads) t l ∙ ap (changed f (m .threads)) (sym (add-one t))))
 
--- where the status goes by the entry alone, restating all of them is a map
+-- each status by a rule
+abbrev pub restating : (ℕ → Status) → ℕ → Thread → Thread
+restating s t entry = withStatus entry (s t)
+
+-- where it goes by the entry alone, restating all of them is a map
 pub restated-map : (f : Status → Status) (xs : List Thread)
-    → restated (λ u. f (getD xs u zeroThread .status)) xs (length xs) ≡ map (λ x. withStatus x (f (x .status))) xs
-unfolding restated
+    → changed (restating (λ u. f (getD xs u zeroThread .status))) xs (length xs) ≡ map (λ x. withStatus x (f (x .status))) xs
+unfolding changed
 restated-map f [] = refl
 restated-map f (x ∷ xs) = ap {B = List Thread} (λ r. withStatus x (f (x .status)) ∷ r) (restated-map f xs)
+
+-- each count from a list
+abbrev pub recounting : List ℕ → ℕ → Thread → Thread
+recounting turns t entry = withCount entry (getD turns t 0)
+
+pub recounted : (turns : List ℕ) (xs : List Thread) → changed (recounting turns) xs (length xs) ≡ withCounts xs turns
+unfolding changed withCounts
+recounted turns [] = refl
+recounted [] (x ∷ xs) = ap {B = List Thread} (λ r. withCount x 0 ∷ r) (recounted [] xs)
+recounted (n ∷ turns) (x ∷ xs) = ap {B = List Thread} (λ r. withCount x n ∷ r) (recounted turns xs)
 
 -- where one thread's status is looked for and the others are written as they were: so far it has the status, or is still to come
 pub record Placed (m : Machine) (thread : ℕ) (s : Status) (t : ℕ) (now : Machine) : Type 0 where

@@ -1,15 +1,16 @@
 -- What is proved of the definitions, for other crates to cite.
 use Prim.Native.Nat.{ℕ, _<_, _≤_}
 use mathlib.Core.Bool.{true, false}
+use mathlib.Core.List.{List}
 use mathlib.Core.Logic.{_↔_}
 use mathlib.Core.Path.{_≡_}
-use lib.ListN.{length}
+use lib.ListN.{length, getD, set}
 use Rattle.bits.specs.Bit.{bit}
 use Rattle.machine.specs.Barrier.{reachBarrier}
-use Rattle.machine.specs.Machine.{statusAt, trap, end, start}
-use Rattle.machine.specs.Scheduler.{runs, after, choice, withLast, afterChoice, choose}
+use Rattle.machine.specs.Machine.{statusAt, withStatusAt, oneMore, counted, turnsAt, turnsOf, withTurns, trap, end, start}
+use Rattle.machine.specs.Scheduler.{runs, after, choice, withLast, afterChoice, choose, someWaits}
 use Rattle.machine.specs.Status.{limits}
-use Rattle.machine.specs.Types.{Limits, Idle, Trapped, Waiting, Machine, Choice, Chosen, NoneRunning, Turn}
+use Rattle.machine.specs.Types.{Limits, Status, Idle, Trapped, Waiting, Machine, Choice, Chosen, NoneRunning, Turn}
 use Rattle.machine.specs.WellFormed.{waiting, wellFormedWithin, wellFormed}
 
 -- Well-formedness.
@@ -89,3 +90,40 @@ Ends = (m : Machine) (t : ℕ) → KeepsRecord m t (end m t)
 
 abbrev pub ReachesBarrier : Type 0
 ReachesBarrier = (m : Machine) (t id second : ℕ) → KeepsRecord m t (reachBarrier m t id second .machine)
+
+-- Counts of turns (02, T-05).
+
+-- the counts that a record has are read and put as they are, and one more is one more in the list of them
+pub record CountsKept : Type 0 where
+  pub length-of : (m : Machine) → length (turnsOf m) ≡ length (m .threads)
+  pub at : (m : Machine) (t : ℕ) → getD (turnsOf m) t 0 ≡ turnsAt m t
+  pub put-at : (m : Machine) (turns : List ℕ) (t : ℕ) → t < length (m .threads) → turnsAt (withTurns m turns) t ≡ getD turns t 0
+  pub put-own : (m : Machine) → withTurns m (turnsOf m) ≡ m
+  pub put-again : (m : Machine) (first second : List ℕ) → withTurns (withTurns m first) second ≡ withTurns m second
+  pub one-more : (m : Machine) (turns : List ℕ) (t : ℕ) → t < length turns
+      → counted (withTurns m turns) t ≡ withTurns m (set turns t (oneMore (getD turns t 0)))
+
+-- nothing that is asked of a record goes by its counts
+pub record CountsUnseen : Type 0 where
+  pub entries : (m : Machine) (turns : List ℕ) → length (withTurns m turns .threads) ≡ length (m .threads)
+  pub statuses : (m : Machine) (turns : List ℕ) (t : ℕ) → statusAt (withTurns m turns) t ≡ statusAt m t
+  pub choices : (m : Machine) (turns : List ℕ) → choice (withTurns m turns) ≡ choice m
+  pub waits : (m : Machine) (turns : List ℕ) → someWaits (withTurns m turns) ≡ someWaits m
+  pub well-formed : (m : Machine) (turns : List ℕ) → wellFormed (withTurns m turns) ≡ wellFormed m
+
+-- and a status that is set, or a meeting, leaves them, and goes by none
+pub record CountsApart : Type 0 where
+  pub set-stays : (m : Machine) (t : ℕ) (s : Status) → turnsOf (withStatusAt m t s) ≡ turnsOf m
+  pub met-stays : (m : Machine) (t id second : ℕ) → turnsOf (reachBarrier m t id second .machine) ≡ turnsOf m
+  pub set-status : (m : Machine) (turns : List ℕ) (t : ℕ) (s : Status)
+      → withStatusAt (withTurns m turns) t s ≡ withTurns (withStatusAt m t s) turns
+  pub met : (m : Machine) (turns : List ℕ) (t id second : ℕ)
+      → reachBarrier (withTurns m turns) t id second
+      ≡ record { trapped = reachBarrier m t id second .trapped; machine = withTurns (reachBarrier m t id second .machine) turns }
+
+-- an issue is counted in one entry, and the record is in all else what the issue made of it
+pub record Counting : Type 0 where
+  pub own : (m : Machine) (t : ℕ) → t < length (m .threads) → turnsAt (counted m t) t ≡ oneMore (turnsAt m t)
+  pub others : (m : Machine) (t u : ℕ) → (u ≡ t → ⊥) → turnsAt (counted m t) u ≡ turnsAt m u
+  pub statuses : (m : Machine) (t u : ℕ) → statusAt (counted m t) u ≡ statusAt m u
+  pub keeps : (m n : Machine) (t : ℕ) → KeepsRecord m t n → KeepsRecord m t (counted n t)

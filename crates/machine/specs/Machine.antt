@@ -1,5 +1,5 @@
 -- The machine record: its eight threads, what it begins as, and what changes in it (document 01, "What a machine holds").
-use Prim.Native.Nat.{ℕ}
+use Prim.Native.Nat.{ℕ, _+_, _%_, _^_}
 use mathlib.Core.Bool.{Bool, cond}
 use mathlib.Core.List.{List, [], _∷_, map}
 use lib.Dec.{eqb}
@@ -21,24 +21,60 @@ anyThread p = any p threadNumbers
 unfoldable pub countThreads : (ℕ → Bool) → ℕ
 countThreads p = count p threadNumbers
 
+-- an entry: its status, and how many turns the thread has had
+abbrev pub entryOf : Status → ℕ → Thread
+entryOf status turns = record { status = status; turns = turns }
+
 -- an entry with every number 0
 abbrev pub zeroThread : Thread
-zeroThread = record { status = Idle }
+zeroThread = entryOf Idle 0
 
--- the status of a thread; idle where there is no such thread
+-- the status of a thread, idle where there is no such thread, and its count of turns, then 0
 abbrev pub statusAt : Machine → ℕ → Status
 statusAt m t = getD (m .threads) t zeroThread .status
 
--- an entry with another status
+abbrev pub turnsAt : Machine → ℕ → ℕ
+turnsAt m t = getD (m .threads) t zeroThread .turns
+
+-- an entry with another status, or another count
 abbrev pub withStatus : Thread → Status → Thread
-withStatus entry status = record { status = status }
+withStatus entry status = entryOf status (entry .turns)
+
+abbrev pub withCount : Thread → ℕ → Thread
+withCount entry turns = entryOf (entry .status) turns
 
 -- the record with another status of one thread; as it was where there is no such thread
 abbrev pub withStatusAt : Machine → ℕ → Status → Machine
 withStatusAt m t status =
     record { enabled = m .enabled; last = m .last; threads = set (m .threads) t (withStatus (getD (m .threads) t zeroThread) status) }
 
--- "A trap changes only that entry's status and "last"." The thread became "last" when it was chosen.
+-- "Each thread entry gains its issues since start, trapping ones too, wrapping at 2^32." (02, T-05)
+-- a count after one issue more, and the record with one more of a thread
+abbrev pub oneMore : ℕ → ℕ
+oneMore turns = (turns + 1) % 2 ^ 32
+
+abbrev pub counted : Machine → ℕ → Machine
+counted m t =
+    record {
+      enabled = m .enabled;
+      last = m .last;
+      threads = set (m .threads) t (withCount (getD (m .threads) t zeroThread) (oneMore (turnsAt m t)));
+    }
+
+-- the counts of all threads, and the record with others: 0 where the list has none
+unfoldable pub turnsOf : Machine → List ℕ
+turnsOf m = map (λ entry. entry .turns) (m .threads)
+
+unfoldable pub withCounts : List Thread → List ℕ → List Thread
+withCounts [] turns = []
+withCounts (entry ∷ entries) [] = withCount entry 0 ∷ withCounts entries []
+withCounts (entry ∷ entries) (n ∷ turns) = withCount entry n ∷ withCounts entries turns
+
+abbrev pub withTurns : Machine → List ℕ → Machine
+withTurns m turns = record { enabled = m .enabled; last = m .last; threads = withCounts (m .threads) turns }
+
+-- "A trap changes only that entry's status and "last"", and "a trap changes the count too" (02, T-05). The thread became "last" when it
+-- was chosen, and its issue is counted when it has been made, whether it traps or not.
 abbrev pub trap : Machine → ℕ → ℕ → Machine
 trap m t reason = withStatusAt m t (Trapped reason)
 

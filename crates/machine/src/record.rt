@@ -3,8 +3,9 @@ ghost use Prim.Native.Nat.{_<_};
 ghost use mathlib.Core.Bool.{cond};
 ghost use mathlib.Core.Path.{_≡_};
 ghost use lib.Dec.{eqb};
+ghost use lib.ListN.{length};
 ghost use Rattle.bits.specs.Bit.{bit};
-ghost use Rattle.machine.specs.Machine.{statusAt, withStatusAt, zeroed, startStatus, start, trap, end};
+ghost use Rattle.machine.specs.Machine.{statusAt, withStatusAt, turnsOf, withTurns, zeroed, startStatus, start, trap, end};
 use crate::status::Status;
 use crate::status::Thread;
 
@@ -92,6 +93,30 @@ impl Machine {
             let old = entry.status;
             let next = entry.with_status(either(t == thread, status, old));
             self.threads[t] = next;
+        }
+        self
+    }
+
+    // The count of turns of each thread.
+    pub fn turns(self) -> [u32; 8]
+        ensures { λ r. ⌜ (r ≡ turnsOf self) × (length r ≡ 8) ⌝ }
+    {
+        let mut turns = [0u32; 8];
+        for read in 0..8usize {
+            let entry = self.threads[read];
+            turns[read] = entry.turns;
+        }
+        turns
+    }
+
+    // The record with other counts; every status stays.
+    pub fn with_turns(mut self, turns: [u32; 8]) -> Machine
+        ensures { λ r. ⌜ r ≡ withTurns self turns ⌝ }
+    {
+        for put in 0..8usize {
+            let entry = self.threads[put];
+            let next = entry.with_count(turns[put]);
+            self.threads[put] = next;
         }
         self
     }

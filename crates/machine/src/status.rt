@@ -1,6 +1,6 @@
-// A thread's entry: its status, with what that status carries.
+// A thread's entry: its status, with what that status carries, and its count of turns.
 ghost use mathlib.Core.Path.{_≡_};
-ghost use Rattle.machine.specs.Machine.{zeroThread, withStatus};
+ghost use Rattle.machine.specs.Machine.{entryOf, zeroThread, oneMore, withStatus, withCount};
 ghost use Rattle.machine.specs.Status.{limits, isRunning, isWaiting, waitsAt, waitsOtherwise, carriesInRange};
 
 // Trapped carries a reason; Waiting carries a barrier id and a count.
@@ -12,8 +12,10 @@ pub enum Status {
     Waiting(u8, u8),
 }
 
+// `turns` is how many issues the thread has had since its start, modulo 2^32.
 pub struct Thread {
     pub status: Status,
+    pub turns: u32,
 }
 
 // The greatest barrier id: a thread meets no other at a greater one, and a record holds none.
@@ -100,27 +102,46 @@ pub fn carries_in_range(status: Status, limits: Limits) -> bool
     }
 }
 
+// A count with one issue more: it wraps at 2^32.
+pub fn one_more(turns: u32) -> u32
+    ensures { λ r. ⌜ r ≡ oneMore turns ⌝ }
+{
+    std::num::wrapping_add_u32(turns, 1)
+}
+
 impl Thread {
+    // The entry of a thread with a status that has had so many turns.
+    pub fn new(status: Status, turns: u32) -> Thread
+        ensures { λ r. ⌜ r ≡ entryOf status turns ⌝ }
+    {
+        Thread { status, turns }
+    }
+
     // The entry with every number 0.
     pub(crate) fn zero() -> Thread
         ensures { λ r. ⌜ r ≡ zeroThread ⌝ }
     {
         Thread {
             status: Status::Idle,
+            turns: 0,
         }
-    }
-
-    // The entry that has a status, and no other number but 0.
-    pub fn of_status(status: Status) -> Thread
-        ensures { λ r. ⌜ r ≡ withStatus zeroThread status ⌝ }
-    {
-        Thread::zero().with_status(status)
     }
 
     // The entry with another status; all else that it holds stays.
     pub(crate) fn with_status(self, status: Status) -> Thread
         ensures { λ r. ⌜ r ≡ withStatus self status ⌝ }
     {
-        Thread { status }
+        Thread {
+            status,
+            turns: self.turns,
+        }
+    }
+
+    // The entry with another count; its status stays.
+    pub(crate) fn with_count(self, turns: u32) -> Thread
+        ensures { λ r. ⌜ r ≡ withCount self turns ⌝ }
+    {
+        let status = self.status;
+        Thread::new(status, turns)
     }
 }

@@ -23,12 +23,12 @@ counted-small n = go (eqb n 1)
     go true = lit≤ tt
     go false = lit≤ tt
 
-body-small : (word : List ℕ) (issues : ℕ) (m : Machine) (registers : List ℕ) → length word ≤ 7 → total (bodyParts word issues m registers) ≤ 733
+body-small : (word : List ℕ) (issues : ℕ) (m : Machine) (registers : List ℕ) → length word ≤ 7 → total (bodyParts word issues m registers) ≤ 877
 unfolding bytes
 body-small word issues m registers h = omega (arith, h, decimal-small issues, counted-small issues, threads-small m registers)
 
 -- a text whose first word is short has room
-pub body-whole : (l word : List ℕ) (issues : ℕ) (m : Machine) (registers : List ℕ) → length l ≡ 733 → length word ≤ 7 →
+pub body-whole : (l word : List ℕ) (issues : ℕ) (m : Machine) (registers : List ℕ) → length l ≡ 877 → length word ≤ 7 →
     putsAll (wrote 0 l) (bodyParts word issues m registers) ≡ writes l 0 (concat (bodyParts word issues m registers))
 body-whole l word issues m registers e h =
     let parts = bodyParts word issues m registers in

@@ -32,8 +32,8 @@ fn put_body(out: &mut [u8], word: &[u8], run: Run, registers: &[u32; REGISTER_WO
     put_threads(out, at, machine, registers)
 }
 
-// The longest text: 32 bytes for the first line, 75 for each thread, and 101 for the line of those that are off.
-pub const LONGEST: usize = 733;
+// The longest text: 32 bytes for the first line, 93 for each thread, and 101 for the line of those that are off.
+pub const LONGEST: usize = 877;
 
 // Puts the text for a run at the start of the buffer, and answers its length: 0 for a refused run, of which nothing is printed.
 pub fn write_report(run: Run, registers: &[u32; REGISTER_WORDS], out: &mut [u8; LONGEST]) -> usize

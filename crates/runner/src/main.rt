@@ -2,7 +2,6 @@
 // the run ended.
 mod saving;
 mod settings;
-mod sizes;
 
 use answer::MEMORY_BYTES;
 use answer::PROGRAM_WORDS;
@@ -10,6 +9,8 @@ use answer::REGISTER_WORDS;
 use files::read_stream;
 use files::refuse;
 use image::ReadAnswer;
+use image_sizes::IMAGE_ROOM;
+use image_sizes::memory_of;
 use interpreter::Run;
 use interpreter::RunAnswer;
 use interpreter::StartAnswer;
@@ -18,8 +19,6 @@ use libc::STDOUT_FILENO;
 use machine::Machine;
 use program::INPUT_BYTES;
 use settings::Settings;
-use sizes::IMAGE_ROOM;
-use sizes::memory_of;
 ghost use Prim.Native.Nat.{_≤_};
 ghost use lib.ListN.{length};
 ghost use Rattle.answer.specs.Refusal.{memoryBytes};
@@ -108,7 +107,8 @@ fn resume(settings: Settings, program: &[u32]) {
         return;
     }
     let size = memory_of(length);
-    if size == 0 {
+    let refused = answer::bad_memory(size);
+    if refused {
         refuse(9);
         return;
     }

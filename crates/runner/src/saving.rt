@@ -1,9 +1,12 @@
-// The machine saved as an image.
-use crate::sizes::LONGEST_IMAGE;
-use crate::sizes::image_of;
+// The machine saved as an image, in the newest form.
+use answer::BLOCK_BYTES;
 use files::refuse;
 use files::write_synced;
 use image::WriteAnswer;
+use image_layout::Form;
+use image_layout::Shape;
+use image_sizes::LONGEST_IMAGE;
+use image_sizes::image_size;
 use machine::Machine;
 ghost use Prim.Native.Nat.{_≤_};
 ghost use lib.ListN.{length};
@@ -29,6 +32,10 @@ pub fn save(registers: &[u32], memory: &[u8], machine: Machine) -> bool
     requires { ⌜ length (now memory) ≤ memoryBytes ⌝ }
 {
     let mut image = [0u8; LONGEST_IMAGE];
-    let size = image_of(memory.len());
+    let shape = Shape {
+        form: Form::Newest,
+        blocks: (memory.len() / BLOCK_BYTES) as u16,
+    };
+    let size = image_size(shape);
     save_by(registers, memory, machine, &mut image[..size])
 }

@@ -9,9 +9,9 @@ use lib.ListN.{length, length-append}
 use Rattle.isa.specs.Text.{bytes}
 use Rattle.text.proofs.Lengths.{decimal-small}
 use Rattle.text.specs.Number.{decimal}
-use Rattle.machine.specs.Machine.{statusAt}
+use Rattle.machine.specs.Machine.{statusAt, turnsAt}
 use Rattle.machine.specs.Status.{isIdle}
-use Rattle.thread_lines.specs.Lines.{programCounter, reason, stateParts, lineParts, linesParts, offPart, offParts, offLine, threadParts}
+use Rattle.thread_lines.specs.Lines.{programCounter, reason, stateParts, turnsUnit, turnsParts, lineParts, linesParts, offPart, offParts, offLine, threadParts}
 use Rattle.thread_lines.specs.Text.{concat, counter}
 use Rattle.thread_lines.specs.Types.{Machine, Status, Idle, Running, Ended, Trapped, Waiting}
 
@@ -53,27 +53,44 @@ state-small Ended pc = omega (arith, counter-length pc)
 state-small (Trapped number) pc = omega (arith, counter-length pc, reason-small number)
 state-small (Waiting id count) pc = omega (arith, counter-length pc, decimal-small id, decimal-small count)
 
-line-small : (thread : ℕ) (s : Status) (pc : ℕ) → total (lineParts thread s pc) ≤ 75
+unit-small : (turns : ℕ) → length (turnsUnit turns) ≤ 7
+unfolding turnsUnit bytes
+unit-small turns = go (eqb turns 1)
+  where
+    go : (b : Bool) → length (cond b (bytes " turn\n") (bytes " turns\n")) ≤ 7
+    go true = lit≤ tt
+    go false = lit≤ tt
+
+line-small : (thread : ℕ) (s : Status) (pc turns : ℕ) → total (lineParts thread s pc turns) ≤ 93
 unfolding lineParts bytes
-line-small thread s pc = go (isIdle s)
+line-small thread s pc turns = go (isIdle s)
   where
     whole : List (List ℕ)
-    whole = (bytes "thread " ∷ decimal thread ∷ stateParts s pc) ++ bytes "\n" ∷ []
+    whole = (bytes "thread " ∷ decimal thread ∷ stateParts s pc) ++ turnsParts turns
 
-    small : total whole ≤ 75
-    small = omega (arith, total-append (stateParts s pc) (bytes "\n" ∷ []), decimal-small thread, state-small s pc)
+    small : total whole ≤ 93
+    small =
+        omega (
+          arith,
+          total-append (stateParts s pc) (turnsParts turns),
+          decimal-small thread,
+          state-small s pc,
+          decimal-small turns,
+          unit-small turns,
+        )
 
-    go : (b : Bool) → total (cond b [] whole) ≤ 75
+    go : (b : Bool) → total (cond b [] whole) ≤ 93
     go true = lit≤ tt
     go false = small
 
-lines-small : (m : Machine) (registers : List ℕ) (k : ℕ) → total (linesParts m registers k) ≤ 75 * k
+lines-small : (m : Machine) (registers : List ℕ) (k : ℕ) → total (linesParts m registers k) ≤ 93 * k
 unfolding linesParts
 lines-small m registers zero = lit≤ tt
 lines-small m registers (suc k) =
     let s = statusAt m k in
     let pc = programCounter registers k in
-    omega (arith, total-append (linesParts m registers k) (lineParts k s pc), lines-small m registers k, line-small k s pc)
+    let n = turnsAt m k in
+    omega (arith, total-append (linesParts m registers k) (lineParts k s pc n), lines-small m registers k, line-small k s pc n)
 
 off-small : (thread : ℕ) (s : Status) → total (offPart thread s) ≤ 11
 unfolding offPart bytes
@@ -103,5 +120,5 @@ off-line-small m = go (eqb (m .enabled) 255)
     go false = small
 
 -- the lines of eight threads and that of the threads off
-pub threads-small : (m : Machine) (registers : List ℕ) → total (threadParts m registers) ≤ 701
+pub threads-small : (m : Machine) (registers : List ℕ) → total (threadParts m registers) ≤ 845
 threads-small m registers = omega (arith, total-append (linesParts m registers 8) (offLine m), lines-small m registers 8, off-line-small m)

@@ -1,11 +1,12 @@
--- The lines of a machine's threads: the status and the program counter of each that is on, and then the numbers of those that are off.
+-- The lines of a machine's threads: the status, the program counter and the turns of each that is on, and then the numbers of those
+-- that are off.
 use Prim.Native.Nat.{ℕ, zero, suc}
 use mathlib.Core.Bool.{cond}
 use mathlib.Core.List.{List, [], _∷_, _++_}
 use lib.Dec.{eqb}
 use lib.ListN.{getD}
 use Rattle.isa.specs.Text.{bytes}
-use Rattle.machine.specs.Machine.{statusAt}
+use Rattle.machine.specs.Machine.{statusAt, turnsAt}
 use Rattle.machine.specs.State.{scalarIndex, programCounterRegister}
 use Rattle.machine.specs.Status.{isIdle}
 use Rattle.text.specs.Number.{decimal}
@@ -39,15 +40,23 @@ stateParts Ended pc = bytes " ended at " ∷ counter pc ∷ []
 stateParts (Trapped number) pc = bytes " trapped at " ∷ counter pc ∷ bytes ": " ∷ reason number ∷ []
 stateParts (Waiting id count) pc = bytes " waiting at " ∷ counter pc ∷ barrierParts id count
 
+-- what is counted, behind the number, and the end of the line
+unfoldable pub turnsUnit : ℕ → List ℕ
+turnsUnit turns = cond (eqb turns 1) (bytes " turn\n") (bytes " turns\n")
+
+-- how many turns a thread has had
+abbrev pub turnsParts : ℕ → List (List ℕ)
+turnsParts turns = bytes ", " ∷ decimal turns ∷ turnsUnit turns ∷ []
+
 -- a thread that is off has no line
-unfoldable pub lineParts : ℕ → Status → ℕ → List (List ℕ)
-lineParts thread status pc =
-    cond (isIdle status) [] ((bytes "thread " ∷ decimal thread ∷ stateParts status pc) ++ bytes "\n" ∷ [])
+unfoldable pub lineParts : ℕ → Status → ℕ → ℕ → List (List ℕ)
+lineParts thread status pc turns =
+    cond (isIdle status) [] ((bytes "thread " ∷ decimal thread ∷ stateParts status pc) ++ turnsParts turns)
 
 -- the lines of the first k threads
 unfoldable pub linesParts : Machine → List ℕ → ℕ → List (List ℕ)
 linesParts m registers zero = []
-linesParts m registers (suc k) = linesParts m registers k ++ lineParts k (statusAt m k) (programCounter registers k)
+linesParts m registers (suc k) = linesParts m registers k ++ lineParts k (statusAt m k) (programCounter registers k) (turnsAt m k)
 
 -- the number of a thread that is off
 unfoldable pub offPart : ℕ → Status → List (List ℕ)

@@ -2,7 +2,7 @@
 ghost use mathlib.Core.List.{[], _∷_};
 ghost use mathlib.Core.Path.{_≡_};
 ghost use Rattle.text.specs.Buffer.{wrote, puts};
-ghost use Rattle.thread_lines.specs.Lines.{reason, barrierParts, stateParts, lineParts, offPart};
+ghost use Rattle.thread_lines.specs.Lines.{reason, barrierParts, stateParts, turnsUnit, turnsParts, lineParts, offPart};
 ghost use Rattle.thread_lines.specs.Text.{counter, putsAll};
 use machine::Status;
 use machine::is_idle;
@@ -71,9 +71,35 @@ fn put_state(out: &mut [u8], at: usize, status: Status, pc: u32) -> usize
     }
 }
 
+// What is counted, behind the number, and the end of the line.
+fn put_unit(out: &mut [u8], at: usize, turns: u32) -> usize
+    ensures { λ r. ⌜ wrote r (now (out .exit)) ≡ puts (wrote at (now (out .entry))) (turnsUnit turns) ⌝ }
+{
+    if turns == 1 {
+        return put_text(out, at, b" turn\n");
+    }
+    put_text(out, at, b" turns\n")
+}
+
+// How many turns a thread has had.
+fn put_turns(out: &mut [u8], at: usize, turns: u32) -> usize
+    ensures { λ r. ⌜ wrote r (now (out .exit)) ≡ putsAll (wrote at (now (out .entry))) (turnsParts turns) ⌝ }
+{
+    let at = put_text(out, at, b", ");
+    let at = put_decimal(out, at, turns);
+    put_unit(out, at, turns)
+}
+
 // The line of a thread; none where it is off.
-pub fn put_line(out: &mut [u8], at: usize, thread: u32, status: Status, pc: u32) -> usize
-    ensures { λ r. ⌜ wrote r (now (out .exit)) ≡ putsAll (wrote at (now (out .entry))) (lineParts thread status pc) ⌝ }
+pub fn put_line(
+    out: &mut [u8],
+    at: usize,
+    thread: u32,
+    status: Status,
+    pc: u32,
+    turns: u32,
+) -> usize
+    ensures { λ r. ⌜ wrote r (now (out .exit)) ≡ putsAll (wrote at (now (out .entry))) (lineParts thread status pc turns) ⌝ }
 {
     let off = is_idle(status);
     if off {
@@ -82,7 +108,7 @@ pub fn put_line(out: &mut [u8], at: usize, thread: u32, status: Status, pc: u32)
     let at = put_text(out, at, b"thread ");
     let at = put_decimal(out, at, thread);
     let at = put_state(out, at, status, pc);
-    put_text(out, at, b"\n")
+    put_turns(out, at, turns)
 }
 
 // The number of a thread that is off; nothing where it is on.

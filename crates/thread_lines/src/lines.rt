@@ -23,7 +23,7 @@ fn put_lines(out: &mut [u8], at: usize, machine: Machine, registers: &[u32]) -> 
         let entry = machine.threads[thread];
         let status = entry.status;
         let pc = registers[64 * thread + PROGRAM_COUNTER as usize];
-        next = put_line(out, next, thread as u32, status, pc);
+        next = put_line(out, next, thread as u32, status, pc, entry.turns);
         thread += 1;
     }
     next

@@ -1,7 +1,11 @@
 //! The C library, as include/korvammel.h declares it.
 
+use reference::image::{record_bytes as record_bytes_of, Form};
 use reference::machine::{Record, Status, ZERO};
 use reference::run::Ending;
+
+/// A machine record in bytes: KORVAMMEL_RECORD of them.
+pub type Opening = [u8; 92];
 
 extern "C" {
     fn korvammel_read_word(word: u32, instruction: *mut u32) -> u32;
@@ -27,6 +31,16 @@ extern "C" {
         memory: *const u8,
         memory_length: usize,
         record: *const u8,
+        image: *mut u8,
+        image_length: usize,
+    ) -> u32;
+    fn korvammel_image_write_old(
+        registers: *const u32,
+        registers_length: usize,
+        memory: *const u8,
+        memory_length: usize,
+        record: *const u8,
+        drop: u32,
         image: *mut u8,
         image_length: usize,
     ) -> u32;
@@ -69,11 +83,11 @@ pub fn hex_export(program: &[u32], text: &mut [u8], length: &mut usize) -> u32 {
     unsafe { korvammel_hex_export(program.as_ptr(), program.len(), text.as_mut_ptr(), text.len(), length) }
 }
 
-pub fn start(mask: u32, registers: &mut [u32], record: &mut [u8; 60]) -> u32 {
+pub fn start(mask: u32, registers: &mut [u32], record: &mut Opening) -> u32 {
     unsafe { korvammel_start(mask, registers.as_mut_ptr(), registers.len(), record.as_mut_ptr()) }
 }
 
-pub fn run(program: &[u32], registers: &mut [u32], memory: &mut [u8], record: &mut [u8; 60], budget: u32, result: &mut [u32; 2]) -> u32 {
+pub fn run(program: &[u32], registers: &mut [u32], memory: &mut [u8], record: &mut Opening, budget: u32, result: &mut [u32; 2]) -> u32 {
     unsafe {
         korvammel_run(
             program.as_ptr(),
@@ -89,7 +103,7 @@ pub fn run(program: &[u32], registers: &mut [u32], memory: &mut [u8], record: &m
     }
 }
 
-pub fn image_write(registers: &[u32], memory: &[u8], record: &[u8; 60], image: &mut [u8]) -> u32 {
+pub fn image_write(registers: &[u32], memory: &[u8], record: &Opening, image: &mut [u8]) -> u32 {
     unsafe {
         korvammel_image_write(
             registers.as_ptr(),
@@ -103,7 +117,22 @@ pub fn image_write(registers: &[u32], memory: &[u8], record: &[u8; 60], image: &
     }
 }
 
-pub fn image_read(image: &[u8], registers: &mut [u32], memory: &mut [u8], record: &mut [u8; 60]) -> u32 {
+pub fn image_write_old(registers: &[u32], memory: &[u8], record: &Opening, drop: u32, image: &mut [u8]) -> u32 {
+    unsafe {
+        korvammel_image_write_old(
+            registers.as_ptr(),
+            registers.len(),
+            memory.as_ptr(),
+            memory.len(),
+            record.as_ptr(),
+            drop,
+            image.as_mut_ptr(),
+            image.len(),
+        )
+    }
+}
+
+pub fn image_read(image: &[u8], registers: &mut [u32], memory: &mut [u8], record: &mut Opening) -> u32 {
     unsafe {
         korvammel_image_read(
             image.as_ptr(),
@@ -118,11 +147,11 @@ pub fn image_read(image: &[u8], registers: &mut [u32], memory: &mut [u8], record
 }
 
 /// A record's bytes, as the image begins.
-pub fn record_bytes(record: &Record) -> [u8; 60] {
-    reference::image::record_bytes(record).try_into().expect("60 bytes")
+pub fn record_bytes(record: &Record) -> Opening {
+    record_bytes_of(Form::Newest, record).try_into().expect("92 bytes")
 }
 
-pub fn zero_bytes() -> [u8; 60] {
+pub fn zero_bytes() -> Opening {
     record_bytes(&ZERO)
 }
 

@@ -31,7 +31,7 @@ impl Machine {
             }
             for i in 0..4 {
                 room[64 * t + ADDRESSES as usize + i] = random.address(bytes);
-                room[64 * t + NUMBERS as usize + i] = random.of(&[0, 1, 1, 2, 3, 6, 7, 9, 14, 31, 32]);
+                room[64 * t + NUMBERS as usize + i] = random.of(&[0, 1, 1, 2, 3, 6, 7, 9, 14, 16, 16, 31, 32]);
             }
             for i in 0..48 {
                 room[512 + 1024 * t + i] = random.value(bytes);
@@ -43,12 +43,17 @@ impl Machine {
         }
     }
 
-    /// Before a run of a program: some threads' program counters anywhere, some threads running again that did not.
+    /// Before a run of a program: some threads' program counters and counts of turns anywhere, some threads running again that did not.
     pub fn prepare(&mut self, random: &mut Random, words: usize) {
         let places = words > 0 && (random.one_in(3) || words > 60);
         for t in 0..8 {
             if places && random.one_in(3) {
                 self.room[64 * t + 63] = random.counter(words);
+            }
+        }
+        for turns in &mut self.record.turns {
+            if random.one_in(6) {
+                *turns = random.turns();
             }
         }
         let resumes = random.one_in(2);

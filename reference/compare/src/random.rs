@@ -235,6 +235,16 @@ impl Random {
         step * self.below(memory as u64 / step as u64) as u32
     }
 
+    /// A count of turns: none, some, one that soon wraps, or any.
+    pub fn turns(&mut self) -> u32 {
+        match self.below(4) {
+            0 => 0,
+            1 => self.below(1000) as u32,
+            2 => u32::MAX - self.below(50) as u32,
+            _ => self.word() as u32,
+        }
+    }
+
     /// A number such as programs use: small, aligned, an address near the memory's end, a float, or anything.
     pub fn value(&mut self, memory: usize) -> u32 {
         match self.below(7) {

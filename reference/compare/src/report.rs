@@ -32,6 +32,7 @@ pub struct Tally {
     /// By kind of case, as the comparison names them.
     kinds: [u64; KINDS],
     pub floats: Kinds,
+    wrapped: u64,
     /// The program of the case, for the listing of a difference.
     program: RefCell<Vec<u32>>,
 }
@@ -48,6 +49,7 @@ impl Tally {
     pub fn ran(&mut self, issues: u32, ending: Ending, before: &Record, after: &Record) {
         self.issues += issues as u64;
         self.endings[ending as usize] += 1;
+        self.wrapped += before.turns.iter().zip(&after.turns).filter(|(old, new)| old > new).count() as u64;
         for (old, new) in before.threads.iter().zip(&after.threads) {
             if let (true, Status::Trapped(reason)) = (old != new, new) {
                 self.traps[*reason as usize] += 1;
@@ -155,8 +157,9 @@ fn summary(tallies: &[&Tally], reach: Reach) -> String {
     let traps = named("traps ", &digits[..7], &|tally, i| tally.traps[i]);
     let names: Vec<String> = reach.kinds().iter().map(|kind| kind.to_string()).collect();
     let kinds = named("", &names, &|tally, i| tally.kinds[i]);
+    let wrapped = named("counts of turns ", &["that wrapped".to_string()], &|tally, _| tally.wrapped);
     let floats = list("float cases ", &floats(tallies).sums());
-    format!("{} calls{numbers}{issues}{ended}{traps}{kinds}{floats}", sum(&|tally| tally.cases))
+    format!("{} calls{numbers}{issues}{ended}{traps}{kinds}{wrapped}{floats}", sum(&|tally| tally.cases))
 }
 
 /// What a comparison has to meet, so that one which no longer reaches it is noticed.

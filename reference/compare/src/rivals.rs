@@ -4,8 +4,7 @@
 use compare::machines::{budget, mask, Machine};
 use compare::random::Random;
 use compare::report::{compare, repeated, same, Reach, Stored, Tally, VECTORS};
-use reference::image::record_bytes;
-use reference::machine::Record;
+use reference::machine::{Record, Status};
 use reference::run::run_seen;
 use std::ffi::{c_char, CStr};
 
@@ -16,6 +15,7 @@ struct RivalRecord {
     enabled: u8,
     last: u8,
     threads: [[u8; 4]; 8],
+    turns: [u32; 8],
 }
 
 /// A rival as reference/bench/rival.h has it.
@@ -35,9 +35,14 @@ fn all_rivals() -> &'static [Rival] {
 }
 
 fn rival_record(record: &Record) -> RivalRecord {
-    let bytes = record_bytes(record);
-    let entry = |t: usize| bytes[7 + 7 * t..11 + 7 * t].try_into().expect("four numbers");
-    RivalRecord { enabled: bytes[3], last: bytes[2], threads: std::array::from_fn(entry) }
+    let entry = |status| match status {
+        Status::Idle => [0, 0, 0, 0],
+        Status::Running => [1, 0, 0, 0],
+        Status::Ended => [2, 0, 0, 0],
+        Status::Trapped(reason) => [3, reason, 0, 0],
+        Status::Waiting { id, count } => [4, 0, id, count],
+    };
+    RivalRecord { enabled: record.enabled, last: record.last, threads: record.threads.map(entry), turns: record.turns }
 }
 
 /// One run by the second program, and by each rival on a copy of the machine.

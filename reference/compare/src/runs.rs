@@ -1,6 +1,6 @@
 //! Starts and runs: whole states after each, on machines that must stay the same.
 
-use crate::library::{self, ending_number, record_bytes, zero_bytes};
+use crate::library::{self, ending_number, record_bytes, zero_bytes, Opening};
 use crate::records::{any_record, damaged, stand_in, Verdicts};
 use compare::floats::OPERATIONS;
 use compare::machines::{budget, mask, Machine};
@@ -16,18 +16,18 @@ struct Pair {
     machine: Machine,
     room2: Vec<u32>,
     memory2: Vec<u8>,
-    record2: [u8; 60],
+    record2: Opening,
 }
 
 impl Pair {
-    fn new(machine: Machine, record2: [u8; 60]) -> Pair {
+    fn new(machine: Machine, record2: Opening) -> Pair {
         Pair { room2: machine.room.clone(), memory2: machine.memory.clone(), machine, record2 }
     }
 
     fn started(random: &mut Random) -> Pair {
         let mask = mask(random);
         let mut machine = Machine::started(random, mask);
-        let (mut room2, mut record2) = (vec![2; ROOM_WORDS], [3; 60]);
+        let (mut room2, mut record2) = (vec![2; ROOM_WORDS], [3; 92]);
         assert_eq!(library::start(mask, &mut room2, &mut record2), 0, "start {mask}");
         same("started register word", &machine.room, &room2);
         same("started record byte", &record_bytes(&machine.record), &record2);
@@ -70,7 +70,7 @@ impl Pair {
     }
 
     /// A run from bytes that are no record, of which the second program gives the number: nothing changes. It runs a stand-in for them.
-    fn refused(&mut self, program: &[u32], bytes: [u8; 60], mut stand_in: Record, number: u32, tally: &mut Tally) {
+    fn refused(&mut self, program: &[u32], bytes: Opening, mut stand_in: Record, number: u32, tally: &mut Tally) {
         let (answer, _) = run(program, &mut self.machine.room, &mut self.machine.memory, &mut stand_in, 1);
         let refusal = answer.expect_err("the second program ran from a record that it does not read") as u32;
         let expected = if refusal == 4 { number } else { refusal };
@@ -226,7 +226,7 @@ pub fn refusals(seed: u64, verdicts: &Verdicts, tally: &mut Tally) {
         Err(number) => pair.refused(&program, opening, stand_in(&record, &opening), number, tally),
     }
     let mask = random.of(&[0, 1, 255, 256, u32::MAX]);
-    let mut record2 = [7; 60];
+    let mut record2 = [7; 92];
     let started = start(mask, &mut pair.machine.room);
     let number = library::start(mask, &mut pair.room2, &mut record2);
     let expected = match started {

@@ -1,7 +1,11 @@
 -- `resume` is safe: an image has a memory of at most 65,536 bytes.
 use borrow.Author.Needs.{needs}
+use lib.ListN.{replicate}
+use mathlib.Core.Path.{sym, _∙_}
+use Rattle.answer.proofs.Lengths.{memory-most}
+use Rattle.answer.specs.Refusal.{memoryBytes}
 use Rattle.text.proofs.Shown.{shown}
-use Rattle.runner.proofs.Memory.{part-small}
+use native.Mathlib.Omega.{arith}
 use Rattle.runner.proofs.resume.Statement.{statement}
 use Rattle.runner.proofs.resume.Tie as tie
 
@@ -15,10 +19,11 @@ resume-spec =
     (λ c. search needs)
     (λ c κs. search needs)
     (λ c κs. search needs)
+    (λ c κs. search needs)
     (λ c. search needs)
     (λ c. search needs)
     (λ c. search needs)
-    (λ c. search needs)
-    (λ c. shown _ _ (search needs))
-    (λ c κs. part-small _ _ _ (search needs) (c .before .before .before .memory-of .ensures))
+    (λ c. memory-most _ (sym (c .before .before .bad-memory .ensures) ∙ c .before .if2 .left))
+    (λ c. shown _ _ (memory-most _ (sym (c .before .before .before .bad-memory .ensures) ∙ c .before .before .if2 .left)))
+    (λ c κs. let n = c .before .before .before .before .memory-of .result in let h = memory-most n (sym (c .before .before .before .bad-memory .ensures) ∙ c .before .before .if2 .left) in omega (arith, shown n (replicate memoryBytes 0) h, h))
     (λ c. search needs))

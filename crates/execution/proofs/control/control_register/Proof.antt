@@ -20,4 +20,5 @@ control-register-spec =
     (λ c. rw (c .before .match .keys5))
     (λ c. rw (c .match .keys6))
     (λ c. rw (c .match .keys7))
-    (λ c. let r = c .match .rest in rw (ne-eqb _ 0 (r .0 .0 .0 .0 .0 .0 .1), ne-eqb _ 1 (r .0 .0 .0 .0 .0 .1), ne-eqb _ 2 (r .0 .0 .0 .0 .1), ne-eqb _ 3 (r .0 .0 .0 .1), ne-eqb _ 6 (r .0 .0 .1), ne-eqb _ 9 (r .0 .1), ne-eqb _ 14 (r .1))))
+    (λ c. rw (c .match .keys8))
+    (λ c. let r = c .match .rest in rw (ne-eqb _ 0 (r .0 .0 .0 .0 .0 .0 .0 .1), ne-eqb _ 1 (r .0 .0 .0 .0 .0 .0 .1), ne-eqb _ 2 (r .0 .0 .0 .0 .0 .1), ne-eqb _ 3 (r .0 .0 .0 .0 .1), ne-eqb _ 6 (r .0 .0 .0 .1), ne-eqb _ 9 (r .0 .0 .1), ne-eqb _ 14 (r .0 .1), ne-eqb _ 16 (r .1))))

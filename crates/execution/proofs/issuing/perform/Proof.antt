@@ -17,7 +17,7 @@ returns c =
     let pc = c .before .before .before .scalar in
     let a = c .before .before .before .before .before .before .before .before .args in
     rw (c .trap .ensures)
-    (performs-outside (a .program .now) (state (a .machine) (a .registers .now) (a .memory .now)) (a .t) (pc .result) (pc .ensures)
+    (performs-outside (a .program .now) (state (a .machine) (a .registers .now) (a .memory .now)) (a .t) (a .turns) (pc .result) (pc .ensures)
     (sym (test .ensures) ∙ not-true (test .result) (c .before .if1 .taken)))
 
 shared-slice-read-w : tie.Need-shared-slice-read-w
@@ -68,7 +68,7 @@ returns-2 c =
     let test = fetched .before .before .in-program in
     let pc = fetched .before .before .before .scalar in
     let a = fetched .before .before .before .before .before .before .before .before .args in
-    performs-word (a .program .now) (state (a .machine) (a .registers .now) (a .memory .now)) (a .t) (pc .result) (pc .ensures)
+    performs-word (a .program .now) (state (a .machine) (a .registers .now) (a .memory .now)) (a .t) (a .turns) (pc .result) (pc .ensures)
     (sym (test .ensures) ∙ not-false (test .result) (fetched .before .if1 .left))
     _ (w .ensures) (c .before .before .settle .result) _ (c .before .before .settle .ensures)
 

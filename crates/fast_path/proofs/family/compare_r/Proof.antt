@@ -6,7 +6,7 @@ use Rattle.fast_path.proofs.family.compare_r.Statement.{statement}
 use Rattle.fast_path.proofs.family.compare_r.Tie as tie
 
 returns-2 : tie.Need-returns-2
-returns-2 c memory pc enabled words =
+returns-2 c memory pc enabled words turns =
     let test = c .before .before .before .before in
     let f = test .before .before .before in
     let a = f .args in
@@ -17,7 +17,7 @@ returns-2 c memory pc enabled words =
       c .before .before .operand-b .ensures,
       c .before .before .before .operand-a .ensures,
     )
-    (compare-R (a .t) (a .regs .now) (a .w) (a .op) (f .pre .1) low memory pc enabled words)
+    (compare-R (a .t) (a .regs .now) (a .w) (a .op) (f .pre .1) low memory pc enabled words turns)
 
 pub compare-r-spec : {M : Type 1} → statement M
 compare-r-spec =

@@ -6,12 +6,12 @@ use Rattle.fast_path.proofs.family.move_immediate.Statement.{statement}
 use Rattle.fast_path.proofs.family.move_immediate.Tie as tie
 
 returns-2 : tie.Need-returns-2
-returns-2 c memory pc enabled words =
+returns-2 c memory pc enabled words turns =
     let test = c .before .before .before in
     let f = test .before .before in
     let a = f .args in
     rw (c .replace .ensures, c .before .movei-number .ensures, c .before .before .operand-d .ensures)
-    (moves (a .t) (a .regs .now) (a .w) (a .op) (f .pre .1) (test .if1 .left) memory pc enabled words)
+    (moves (a .t) (a .regs .now) (a .w) (a .op) (f .pre .1) (test .if1 .left) memory pc enabled words turns)
 
 pub move-immediate-spec : {M : Type 1} → statement M
 move-immediate-spec =

@@ -8,14 +8,14 @@ use Rattle.fast_path.proofs.issuing.jump.Tie as tie
 
 returns : tie.Need-returns
 unfolding jumpTo
-returns c enabled =
+returns c enabled turns =
     let test = c .before .before .before .before in
     let sum = test .before .before .wrapping-add-u32 in
     let f = test .before .before .before .before in
     let a = f .args in
     rw (
       c .before .before .set-scalar .ensures,
-      ← wrapped (context (a .t) (a .pc) enabled (a .words)) (a .regs .now) (a .regs .now) (a .offset) (f .pre .1) (f .pre .2) (search needs),
+      ← wrapped (context (a .t) (a .pc) enabled (a .words) turns) (a .regs .now) (a .regs .now) (a .offset) (f .pre .1) (f .pre .2) (search needs),
       ← sum .ensures,
       ← test .before .in-program .ensures,
       test .if1 .taken,

@@ -6,13 +6,13 @@ use Rattle.fast_path.proofs.issuing.word.Statement.{statement}
 use Rattle.fast_path.proofs.issuing.word.Tie as tie
 
 returns-5 : tie.Need-returns-5
-returns-5 c enabled =
+returns-5 c enabled turns =
     let called = c .before .before in
     let chosen = called .before .before in
     let read = chosen .before .before .before .before .before in
     let a = read .before .before .before .args in
-    tries-action (context (a .t) (a .pc) enabled (a .words)) (a .w) (read .register .result) (read .register .ensures) (a .regs .now) (a .memory .now)
-    (chosen .action .result) (chosen .action .ensures _ enabled _) (called .act .result) _ (called .act .ensures enabled)
+    tries-action (context (a .t) (a .pc) enabled (a .words) turns) (a .w) (read .register .result) (read .register .ensures) (a .regs .now) (a .memory .now)
+    (chosen .action .result) (chosen .action .ensures _ enabled _ turns) (called .act .result) _ (called .act .ensures enabled turns)
 
 pub word-spec : {M : Type 1} → statement M
 word-spec =
@@ -29,13 +29,13 @@ word-spec =
     (λ c κs. search needs)
     (λ c. search needs)
     (λ c. search needs)
-    (λ c enabled. c .before .before .before .before .store .ensures enabled _)
+    (λ c enabled turns. c .before .before .before .before .store .ensures enabled _ turns)
     (λ c. search needs)
     (λ c. search needs)
-    (λ c enabled. c .before .before .before .before .store2 .ensures enabled _)
+    (λ c enabled turns. c .before .before .before .before .store2 .ensures enabled _ turns)
     (λ c. search needs)
     (λ c. search needs)
-    (λ c enabled. c .before .before .before .before .store3 .ensures enabled _)
+    (λ c enabled turns. c .before .before .before .before .store3 .ensures enabled _ turns)
     (λ c. search needs)
     (λ c. search needs)
     returns-5)

@@ -11,4 +11,4 @@ entry-or-zero-spec =
     (λ c. search needs)
     (λ c κs. search needs)
     (λ c. search needs)
-    (λ c. rw (c .before .enum-told .given .1) (c .of-status .ensures)))
+    (λ c. rw (c .before .enum-told .given .1) (c .new .ensures)))

@@ -4,6 +4,7 @@ use mathlib.Core.Path.{_≡_, ap}
 use lib.ListN.{drop, length-set}
 use Rattle.machine.specs.State.{scalarIndex, laneIndex}
 use Rattle.image_layout.proofs.Join.{grown-new}
+use Rattle.image_layout.proofs.Rows.{threads}
 use Rattle.little_endian.specs.Numbers.{bytesOf}
 use Rattle.image.specs.Image.{fieldBytes}
 use Rattle.image.proofs.Words.{grown-two}
@@ -19,7 +20,7 @@ slice-write-buffer-2 : tie.Need-slice-write-buffer-2
 slice-write-buffer-2 c = let h = rw (c .enum-told .given .1) at (c .before .before .before .before .before .pre .2) in simp length-set (omega (arith, h))
 
 mul-entry : tie.Need-mul-entry
-mul-entry c = let h = rw (c .enum-told2 .given .1) at (c .before .before .before .before .before .pre .1) in omega (arith, h)
+mul-entry c = let h = rw (c .enum-told2 .given .1) at (c .before .before .before .before .before .pre .1) in omega (arith, h, threads (c .before .before .before .before .before .args .shape .form))
 
 put-fields-requires : tie.Need-put-fields-requires
 put-fields-requires c κs = let h = rw (c .before .before .before .enum-told2 .given .1) at (c .before .before .before .before .before .before .before .before .pre .2) in h
@@ -49,7 +50,7 @@ returns : tie.Need-returns
 returns c = let h = rw (c .enum-told .given .1) at (c .before .before .before .before .before .pre .2) in rw (c .enum-told .given .1) (grown-two (c .before .before .before .before .before .args .buffer .now) (c .before .before .before .before .before .args .at) _ _ h)
 
 returns-2 : tie.Need-returns-2
-returns-2 c = rw (c .before .before .before .before .before .before .enum-told2 .given .1) (grown-new (ap fieldBytes (c .before .before .before .before .fields-of .ensures)) (c .before .before .put-fields .ensures))
+returns-2 c = rw (c .before .before .before .before .before .before .enum-told2 .given .1) (grown-new (ap (fieldBytes (c .before .before .before .before .before .before .before .before .before .before .before .args .shape .form)) (c .before .before .before .before .fields-of .ensures)) (c .before .before .put-fields .ensures))
 
 returns-3 : tie.Need-returns-3
 returns-3 c =
@@ -74,10 +75,9 @@ put-body-spec =
     (λ c. search needs)
     (λ c. search needs)
     mul-entry
-    (λ c. let h = rw (c .enum-told2 .given .1) at (c .before .before .before .before .before .pre .1) in h)
+    (λ c. let h = rw (c .enum-told2 .given .1) at (c .before .before .before .before .before .pre .1) in omega (arith, h, threads (c .before .before .before .before .before .args .shape .form)))
     (λ c κs. search needs)
     put-fields-requires
-    (λ c. search needs)
     (λ c. search needs)
     mul-put-words
     put-words-requires

@@ -14,7 +14,7 @@ use Rattle.image.proofs.writing.put_section.Statement.{statement}
 use Rattle.image.proofs.writing.put_section.Tie as tie
 
 abbrev Inv-loop : tie.InvT-loop
-Inv-loop shape kind registers memory machine buffer₀ at count next₀ i₀ buffer next i = (i ≤ count) × Grown buffer₀ buffer at next (concatBelow i (recordOf (rowOf shape kind) (bodyOf (state machine registers memory) kind)))
+Inv-loop shape kind registers memory machine buffer₀ at count next₀ i₀ buffer next i = (i ≤ count) × Grown buffer₀ buffer at next (concatBelow i (recordOf (rowOf shape kind) (bodyOf (shape .form) (state machine registers memory) kind)))
 
 abbrev μ-loop : tie.MeasureT-loop
 μ-loop shape kind registers memory machine buffer₀ at count next₀ i₀ buffer next i = count - i
@@ -30,7 +30,7 @@ put-record-requires c κs =
     let e : c .before .before .before .row-of .result .count ≡ r .count = ap (λ x. x .count) (c .before .before .before .row-of .ensures) in
     let l = c .before .before .loop in
     let t : l .i < r .count = omega (arith, c .before .loop-test .taken) in
-    (c .before .before .before .before .before .before .before .pre .0, t, room-for (recordSize r) (l .i) (r .count) (recordOf r (bodyOf s (a .kind))) (l .inv .1) (record-length r (bodyOf s (a .kind)) (body-length-of (a .shape) s (a .kind) (c .before .before .before .before .before .before .before .pre .0))) t (c .before .before .before .before .before .before .before .pre .1))
+    (c .before .before .before .before .before .before .before .pre .0, t, room-for (recordSize r) (l .i) (r .count) (recordOf r (bodyOf (a .shape .form) s (a .kind))) (l .inv .1) (record-length r (bodyOf (a .shape .form) s (a .kind)) (body-length-of (a .shape) s (a .kind) (c .before .before .before .before .before .before .before .pre .0))) t (c .before .before .before .before .before .before .before .pre .1))
 
 loop-again : tie.Need-loop-again Inv-loop μ-loop
 loop-again c =
@@ -39,7 +39,7 @@ loop-again c =
     let r = rowOf (a .shape) (a .kind) in
     let e : c .before .before .before .before .before .before .row-of .result .count ≡ r .count = ap (λ x. x .count) (c .before .before .before .before .before .before .row-of .ensures) in
     let l = c .before .before .before .before .before .loop in
-    (omega (arith, c .before .before .before .before .loop-test .taken), grown-join (l .i) (recordOf r (bodyOf s (a .kind))) (l .inv .1) (c .before .before .put-record .ensures))
+    (omega (arith, c .before .before .before .before .loop-test .taken), grown-join (l .i) (recordOf r (bodyOf (a .shape .form) s (a .kind))) (l .inv .1) (c .before .before .put-record .ensures))
 
 returns : tie.Need-returns Inv-loop μ-loop
 unfolding sectionOf
@@ -49,7 +49,7 @@ returns c =
     let r = rowOf (a .shape) (a .kind) in
     let e : c .before .before .row-of .result .count ≡ r .count = ap (λ x. x .count) (c .before .before .row-of .ensures) in
     let l = c .before .loop in
-    grown-end (l .i) (r .count) (recordOf r (bodyOf s (a .kind))) (l .inv .1) (omega (arith, l .inv .0)) (omega (arith, c .loop-test .left))
+    grown-end (l .i) (r .count) (recordOf r (bodyOf (a .shape .form) s (a .kind))) (l .inv .1) (omega (arith, l .inv .0)) (omega (arith, c .loop-test .left))
 
 pub put-section-spec : {M : Type 1} → statement M
 put-section-spec =

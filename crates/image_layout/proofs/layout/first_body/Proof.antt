@@ -1,7 +1,7 @@
 -- `layout::first_body` meets its contract.
 use mathlib.Core.Path.{ap, _∙_}
 use Rattle.image_layout.specs.Layout.{rowOf, headLength}
-use Rattle.image_layout.proofs.Rows.{places-few, kind-room, whole-length}
+use Rattle.image_layout.proofs.Rows.{places-few, kind-room, whole-length, fixed-few}
 use native.Mathlib.Omega.{arith}
 use borrow.Author.Needs.{needs}
 use Rattle.image_layout.proofs.layout.first_body.Statement.{statement}
@@ -11,7 +11,7 @@ add-result : tie.Need-add-result
 add-result c =
     let a = c .before .before .before .args in
     let h = ap (λ r. headLength (r .places)) (c .before .before .row-of .ensures) in
-    omega (arith, c .before .start-of .ensures, c .head-length .ensures ∙ h, kind-room (a .shape) (a .kind), whole-length (a .shape), places-few (rowOf (a .shape) (a .kind) .places))
+    omega (arith, c .before .start-of .ensures, c .head-length .ensures ∙ h, kind-room (a .shape) (a .kind), whole-length (a .shape), fixed-few (a .shape .form), places-few (rowOf (a .shape) (a .kind) .places))
 
 returns : tie.Need-returns
 returns c =

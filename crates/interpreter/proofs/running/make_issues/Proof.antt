@@ -1,62 +1,79 @@
 -- `running::make_issues` meets its contract: the issues made so far and those that the rules make from there are those of the run.
 use Prim.Native.Nat.{_-_, _≤_}
-use mathlib.Core.Path.{_≡_, refl, _∙_}
+use mathlib.Core.Path.{_≡_, refl, ap, _∙_}
 use native.Mathlib.Omega.{arith}
 use borrow.Author.Needs.{needs}
 use borrow.Author.Tests.{not-true, not-false}
 use lib.ListN.{length}
-use Rattle.machine.specs.State.{state}
+use Rattle.machine.specs.Machine.{withTurns}
+use Rattle.machine.specs.State.{state, recounted}
+use Rattle.machine.proofs.Claims.{counts-kept}
 use Rattle.interpreter.specs.Stretch.{Carried}
 use Rattle.interpreter.proofs.Issuing.{carried-start, carried-on, ends}
 use Rattle.interpreter.proofs.running.make_issues.Statement.{statement}
 use Rattle.interpreter.proofs.running.make_issues.Tie as tie
 
 abbrev Inv-loop : tie.InvT-loop
-Inv-loop program registers₀ memory₀ machine₀ budget made₀ registers memory machine made =
-    (made ≤ budget) × (length registers ≡ length registers₀) × (length memory ≡ length memory₀)
-    × Carried program budget (state machine₀ registers₀ memory₀) made (state machine registers memory)
+Inv-loop program registers₀ memory₀ machine₀ budget made₀ turns₀ registers memory machine made turns =
+    (made ≤ budget) × (length registers ≡ length registers₀) × (length memory ≡ length memory₀) × (length turns ≡ 8)
+    × Carried program budget (state machine₀ registers₀ memory₀) made (recounted (state machine registers memory) turns)
 
 abbrev μ-loop : tie.MeasureT-loop
-μ-loop program registers₀ memory₀ machine₀ budget made₀ registers memory machine made = budget - made
+μ-loop program registers₀ memory₀ machine₀ budget made₀ turns₀ registers memory machine made turns = budget - made
 
 loop-holds : tie.Need-loop-holds Inv-loop μ-loop
-loop-holds c = (omega arith, refl, refl, carried-start _ _ _)
+loop-holds c =
+    let m = c .before .before .before .before .args .machine in
+    let e : withTurns m (c .turns .result) ≡ m = ap (withTurns m) (c .turns .ensures .0) ∙ counts-kept .put-own m in
+    (omega arith, refl, refl, c .turns .ensures .1, rw e (carried-start _ _ _))
+
+sub-make-stretch : tie.Need-sub-make-stretch Inv-loop μ-loop
+sub-make-stretch c = omega (arith, c .before .before .before .loop .inv .0)
+
+make-stretch-requires : tie.Need-make-stretch-requires Inv-loop μ-loop
+make-stretch-requires c κs =
+    let l = c .before .before .before .loop in
+    let start = c .before .before .before .before .before .before .before .before in
+    (start .pre .0, l .inv .1 ∙ start .pre .1, l .inv .3)
+
+add-made : tie.Need-add-made Inv-loop μ-loop
+add-made c =
+    let m = c .before .before .before .before .before .before .make-stretch in
+    let l = c .before .before .before .before .before .before .before .before .before .before .loop in
+    let start = c .before .before .before .before .before .before .before .before .before .before .before .before .before .before .before in
+    omega (arith, start .fits .budget, l .inv .0, m .ensures .0 .within)
 
 -- nothing more is issued
 returns : tie.Need-returns Inv-loop μ-loop
 returns c =
-    let l = c .before .before .before .before .before .before .before .before .before .before .before .loop in
-    let m = c .before .before .before .before .before .before .before .before .make-stretch in
+    let put = c .before .with-turns .ensures in
+    let m = c .before .before .before .before .before .before .before .before .before .make-stretch in
+    let l = c .before .before .before .before .before .before .before .before .before .before .before .before .before .loop in
     let e = c .ended .ensures in
     (λ i. record { answer = e .0 i; issues = e .1 i; left = state (e .2 i) (m .last .1 .0) (m .last .1 .1 .0) })
-    ∙ ends _ _ _ (l .made) (state (l .machine) (l .registers) (l .memory)) (l .inv .3) (m .result .made) _ (m .ensures .carried) (m .result .running)
-    (m .ensures .over (not-true (m .result .changed) (c .before .if1 .taken)))
+    ∙ rw put
+    (ends _ _ _ (l .made) (recounted (state (l .machine) (l .registers) (l .memory)) (l .turns)) (l .inv .4) (m .result .made) _ (m .ensures .0 .carried)
+    (m .result .running) (m .ensures .0 .over (not-true (m .result .changed) (c .before .before .if1 .taken))))
+
+loop-less : tie.Need-loop-less Inv-loop μ-loop
+loop-less c =
+    let m = c .before .before .before .before .before .before .before .make-stretch in
+    let l = c .before .before .before .before .before .before .before .before .before .before .before .loop in
+    omega (arith, l .inv .0, m .ensures .0 .within, m .ensures .0 .some-made (not-false (m .result .changed) (c .if1 .left)))
 
 loop-again : tie.Need-loop-again Inv-loop μ-loop
 loop-again c =
-    let l = c .before .before .before .before .before .before .before .before .before .before .loop in
-    let m = c .before .before .before .before .before .before .before .make-stretch in (
-      omega (arith, l .inv .0, m .ensures .within),
+    let m = c .before .before .before .before .before .before .before .make-stretch in
+    let l = c .before .before .before .before .before .before .before .before .before .before .before .loop in (
+      omega (arith, l .inv .0, m .ensures .0 .within),
       m .kept .1 .0 ∙ l .inv .1,
       m .kept .1 .1 .0 ∙ l .inv .2,
-      carried-on _ _ _ (l .made) (state (l .machine) (l .registers) (l .memory)) (l .inv .3) (m .result .made) _ (m .ensures .carried),
+      m .ensures .1,
+      carried-on _ _ _ (l .made) (recounted (state (l .machine) (l .registers) (l .memory)) (l .turns)) (l .inv .4) (m .result .made) _ (m .ensures .0 .carried),
     )
 
 pub make-issues-spec : {M : Type 1} → statement M
 make-issues-spec =
     tie.close
-    (tie.spec
-    Inv-loop
-    μ-loop
-    loop-holds
-    (λ c. omega (arith, c .before .before .loop .inv .0))
-    (λ c κs. (c .before .before .before .before .before .before .pre .0, c .before .before .loop .inv .1 ∙ c .before .before .before .before .before .before .pre .1))
-    (λ c. omega (arith, c .before .before .before .before .before .before .before .before .before .before .before .before .before .fits .budget, c .before .before .before .before .before .before .before .before .before .loop .inv .0, c .before .before .before .before .before .before .make-stretch .ensures .within))
-    (λ c κs. search needs)
-    (λ c. search needs)
-    (λ c. search needs)
-    returns
-    (λ c.
-    let m = c .before .before .before .before .before .before .before .make-stretch in
-    omega (arith, c .before .before .before .before .before .before .before .before .before .before .loop .inv .0, m .ensures .within, m .ensures .some-made (not-false (m .result .changed) (c .if1 .left))))
-    loop-again)
+    (tie.spec Inv-loop μ-loop (λ c κs. search needs) loop-holds sub-make-stretch make-stretch-requires add-made (λ c κs. search needs)
+    (λ c κs. search needs) (λ c. search needs) (λ c. search needs) returns loop-less loop-again)

@@ -1,28 +1,28 @@
 -- `running::make_stretch` meets its contract: each issue is the rules' next one, and the record stays until a status changes.
 use Prim.Native.Nat.{_-_, _≤_}
-use mathlib.Core.Path.{_≡_, refl, _∙_}
+use mathlib.Core.Path.{_≡_, refl, ap, _∙_}
 use native.Mathlib.Omega.{arith}
 use borrow.Author.Needs.{needs}
-use lib.ListN.{length}
-use Rattle.machine.specs.State.{state}
+use lib.ListN.{length, set, length-set}
+use Rattle.machine.specs.State.{state, recounted}
 use Rattle.machine.proofs.Claims.{turned}
 use Rattle.machine.proofs.Tests.{never}
 use Rattle.interpreter.specs.Stretch.{Carried}
-use Rattle.interpreter.specs.Types.{Chosen, NoneRunning}
-use Rattle.interpreter.proofs.Issuing.{carried-start, carried-issue, issue-untouched, over-idle, over-spent}
+use Rattle.interpreter.specs.Types.{Machine, Chosen, NoneRunning}
+use Rattle.interpreter.proofs.Issuing.{raised, chosen-thread, chosen-beside, carried-start, carried-issue, issue-untouched, over-idle, over-spent}
 use Rattle.interpreter.proofs.running.make_stretch.Statement.{statement}
 use Rattle.interpreter.proofs.running.make_stretch.Tie as tie
 
 abbrev Inv-loop : tie.InvT-loop
-Inv-loop program registers₀ memory₀ machine₀ budget made₀ registers memory machine made =
-    (made ≤ budget) × (length registers ≡ length registers₀) × (length memory ≡ length memory₀)
-    × Carried program budget (state machine₀ registers₀ memory₀) made (state machine registers memory)
+Inv-loop program registers₀ memory₀ machine₀ turns₀ budget made₀ registers memory machine turns made =
+    (made ≤ budget) × (length registers ≡ length registers₀) × (length memory ≡ length memory₀) × (length turns ≡ 8)
+    × Carried program budget (recounted (state machine₀ registers₀ memory₀) turns₀) made (recounted (state machine registers memory) turns)
 
 abbrev μ-loop : tie.MeasureT-loop
-μ-loop program registers₀ memory₀ machine₀ budget made₀ registers memory machine made = budget - made
+μ-loop program registers₀ memory₀ machine₀ turns₀ budget made₀ registers memory machine turns made = budget - made
 
 loop-holds : tie.Need-loop-holds Inv-loop μ-loop
-loop-holds c = (omega arith, refl, refl, carried-start _ _ _)
+loop-holds c = (omega arith, refl, refl, c .before .before .before .pre .2, carried-start _ _ _)
 
 -- no thread is running
 returns : tie.Need-returns Inv-loop μ-loop
@@ -30,12 +30,15 @@ returns c =
     let l = c .before .before .before .before .loop in
     let turn = c .before .before .before .choose in
     let chosen = turned (l .machine) (turn .result) (turn .ensures) NoneRunning (c .enum-told .given .1) in
-    record {
-      carried = l .inv .3;
-      within = l .inv .0;
-      some-made = λ e. never e refl;
-      over = λ e. over-idle _ _ (state (l .machine) (l .registers) (l .memory)) (chosen .0);
-    }
+    let s = state (l .machine) (l .registers) (l .memory) in (
+      record {
+        carried = l .inv .4;
+        within = l .inv .0;
+        some-made = λ e. never e refl;
+        over = λ e. over-idle _ _ (recounted s (l .turns)) (chosen-beside s (l .turns) (chosen .0));
+      },
+      l .inv .3,
+    )
 
 -- the budget is spent
 returns-2 : tie.Need-returns-2 Inv-loop μ-loop
@@ -44,71 +47,106 @@ returns-2 c =
     let turn = c .before .before .before .before .before .choose in
     let v = c .before .before .choice .given in
     let chosen = turned (l .machine) (turn .result) (turn .ensures) (Chosen (v .0 .0) (v .0 .1 .0)) (v .1) in
-    record {
-      carried = l .inv .3;
-      within = l .inv .0;
-      some-made = λ e. never e refl;
-      over =
-          λ e. over-spent _ _ (state (l .machine) (l .registers) (l .memory)) (v .0 .0) (v .0 .1 .0) (chosen .0)
-          (omega (arith, c .if1 .taken));
-    }
+    let s = state (l .machine) (l .registers) (l .memory) in (
+      record {
+        carried = l .inv .4;
+        within = l .inv .0;
+        some-made = λ e. never e refl;
+        over =
+            λ e. over-spent _ _ (recounted s (l .turns)) (v .0 .0) (v .0 .1 .0) (chosen-beside s (l .turns) (chosen .0))
+            (omega (arith, c .if1 .taken));
+      },
+      l .inv .3,
+    )
+
+-- the thread chosen is "last", and has a count
+element-copy-out-one-more : tie.Need-element-copy-out-one-more Inv-loop μ-loop
+element-copy-out-one-more c =
+    let at = c .before .before .before .before .before .before .before .before .before .before in
+    let v = at .before .before .choice .given in
+    let turn = at .before .before .before .before .before .choose in
+    let l = at .before .before .before .before .before .before .loop in
+    let chosen = turned (l .machine) (turn .result) (turn .ensures) (Chosen (v .0 .0) (v .0 .1 .0)) (v .1) in
+    omega (arith, ap (λ (m : Machine). m .last) (chosen .1), chosen-thread (l .machine) (v .0 .0) (v .0 .1 .0) (chosen .0))
+
+mul-one-more : tie.Need-mul-one-more Inv-loop μ-loop
+mul-one-more c = omega (arith, element-copy-out-one-more c)
+
+element-write-turns : tie.Need-element-write-turns Inv-loop μ-loop
+element-write-turns c = element-copy-out-one-more (c .before .before)
+
+mul-turns : tie.Need-mul-turns Inv-loop μ-loop
+mul-turns c = omega (arith, element-write-turns c)
 
 -- the thread chosen is issued, and a status is set
 returns-3 : tie.Need-returns-3 Inv-loop μ-loop
 returns-3 c =
-    let at = c .before .before .before .before .before .before .before .before .before in
+    let at = c .before .before .before .before .before .before .before .before .before .before .before .before .before in
     let v = at .before .before .choice .given in
     let turn = at .before .before .before .before .before .choose in
     let l = at .before .before .before .before .before .before .loop in
     let start = at .before .before .before .before .before .before .before .before .before .before in
     let chosen = turned (l .machine) (turn .result) (turn .ensures) (Chosen (v .0 .0) (v .0 .1 .0)) (v .1) in
-    record {
-      carried =
-          carried-issue _ _ _ _ (state (l .machine) (l .registers) (l .memory)) (l .inv .3) (v .0 .0) (v .0 .1 .0) (turn .result .machine) _
-          (start .pre .0)
-          (l .inv .1 ∙ start .pre .1)
-          (chosen .0)
-          (chosen .1)
-          (omega (arith, l .inv .0, at .if1 .left))
-          (c .before .before .before .before .before .before .issue .ensures .0);
-      within = omega (arith, l .inv .0, at .if1 .left);
-      some-made = λ e. omega arith;
-      over = λ e. never (c .if2 .taken) e;
-    }
+    let counts : set (l .turns) (turn .result .machine .last) (c .before .one-more .result) ≡ raised (l .turns) (v .0 .0) =
+    ap (set (l .turns) (turn .result .machine .last)) (c .before .one-more .ensures)
+    ∙ ap (λ (m : Machine). raised (l .turns) (m .last)) (chosen .1) in (
+      record {
+        carried =
+            rw counts
+            (carried-issue _ _ _ _ (state (l .machine) (l .registers) (l .memory)) (l .turns) (l .inv .4) (v .0 .0) (v .0 .1 .0) (turn .result .machine) _
+            (start .pre .0)
+            (l .inv .1 ∙ start .pre .1)
+            (l .inv .3)
+            (chosen .0)
+            (chosen .1)
+            (omega (arith, l .inv .0, at .if1 .left))
+            (c .before .before .before .before .before .before .before .before .before .issue .ensures .0));
+        within = omega (arith, l .inv .0, at .if1 .left);
+        some-made = λ e. omega arith;
+        over = λ e. never (c .if2 .taken) e;
+      },
+      length-set (l .turns) _ _ ∙ l .inv .3,
+    )
 
 -- the thread chosen is issued, and nothing but "last" changes in the record
 loop-again : tie.Need-loop-again Inv-loop μ-loop
 loop-again c =
-    let i = c .before .before .before .before .before .before .issue in
-    let at = c .before .before .before .before .before .before .before .before .before in
+    let i = c .before .before .before .before .before .before .before .before .before .issue in
+    let at = c .before .before .before .before .before .before .before .before .before .before .before .before .before in
     let v = at .before .before .choice .given in
     let turn = at .before .before .before .before .before .choose in
     let l = at .before .before .before .before .before .before .loop in
     let start = at .before .before .before .before .before .before .before .before .before .before in
-    let chosen = turned (l .machine) (turn .result) (turn .ensures) (Chosen (v .0 .0) (v .0 .1 .0)) (v .1) in (
+    let chosen = turned (l .machine) (turn .result) (turn .ensures) (Chosen (v .0 .0) (v .0 .1 .0)) (v .1) in
+    let counts : set (l .turns) (turn .result .machine .last) (c .before .one-more .result) ≡ raised (l .turns) (v .0 .0) =
+    ap (set (l .turns) (turn .result .machine .last)) (c .before .one-more .ensures)
+    ∙ ap (λ (m : Machine). raised (l .turns) (m .last)) (chosen .1) in (
       omega (arith, l .inv .0, at .if1 .left),
       i .kept .1 .0 ∙ l .inv .1,
       i .kept .1 .1 .0 ∙ l .inv .2,
-      carried-issue _ _ _ _ (state (l .machine) (l .registers) (l .memory)) (l .inv .3) (v .0 .0) (v .0 .1 .0) (turn .result .machine) _
+      length-set (l .turns) _ _ ∙ l .inv .3,
+      rw counts
+          (carried-issue _ _ _ _ (state (l .machine) (l .registers) (l .memory)) (l .turns) (l .inv .4) (v .0 .0) (v .0 .1 .0) (turn .result .machine) _
           (start .pre .0)
           (l .inv .1 ∙ start .pre .1)
+          (l .inv .3)
           (chosen .0)
           (chosen .1)
           (omega (arith, l .inv .0, at .if1 .left))
-          (issue-untouched _ (state (turn .result .machine) (l .registers) (l .memory)) _ _ (i .ensures .0) _ (i .ensures .1)
-          (c .if2 .left)),
+          (issue-untouched _ (state (turn .result .machine) (l .registers) (l .memory)) _ _ _ (i .ensures .0) _ (i .ensures .1)
+          (c .if2 .left))),
     )
 
 add-made : tie.Need-add-made Inv-loop μ-loop
 add-made c =
-    let at = c .before .before .before .before .before .before .before .before in
+    let at = c .before .before .before .before .before .before .before .before .before .before .before .before in
     let l = at .before .before .before .before .before .before .loop in
     let start = at .before .before .before .before .before .before .before .before .before .before in
     omega (arith, start .fits .budget, l .inv .0, at .if1 .left)
 
 loop-less : tie.Need-loop-less Inv-loop μ-loop
 loop-less c =
-    let at = c .before .before .before .before .before .before .before .before .before in
+    let at = c .before .before .before .before .before .before .before .before .before .before .before .before .before in
     omega (arith, at .before .before .before .before .before .before .loop .inv .0, at .if1 .left)
 
 pub make-stretch-spec : {M : Type 1} → statement M
@@ -128,6 +166,12 @@ make-stretch-spec =
     (λ c. search needs)
     returns-2
     (λ c κs. search needs)
+    (λ c. search needs)
+    mul-one-more
+    element-copy-out-one-more
+    (λ c κs. search needs)
+    mul-turns
+    element-write-turns
     add-made
     (λ c. search needs)
     (λ c. search needs)

@@ -1,6 +1,11 @@
--- `save` is safe: the image of an allowed memory fits its buffer.
+-- `saving::save` is safe: the image of an allowed memory fits its buffer.
+use Prim.Native.Nat.{_/_}
 use borrow.Author.Needs.{needs}
 use native.Mathlib.Omega.{arith}
+use lib.ListN.{length}
+use Rattle.image_layout.proofs.Rows.{whole-length, fixed-few}
+use Rattle.image_layout.specs.Layout.{ofBlocks}
+use Rattle.image_layout.specs.declared.layout.Form.the-variants.{Newest}
 use Rattle.text.proofs.Shown.{shown}
 use Rattle.runner.proofs.saving.save.Statement.{statement}
 use Rattle.runner.proofs.saving.save.Tie as tie
@@ -9,8 +14,9 @@ pub save-spec : {M : Type 1} → statement M
 save-spec =
     tie.close
     (tie.spec
+    (λ c. search needs)
     (λ c κs. search needs)
-    (λ c. omega (arith, c .image-of .ensures))
-    (λ c. shown _ _ (omega (arith, c .before .image-of .ensures)))
+    (λ c. omega (arith, c .image-size .ensures, whole-length (ofBlocks Newest (length (c .before .before .before .args .memory .now) / 64)), fixed-few Newest))
+    (λ c. shown _ _ (omega (arith, c .before .image-size .ensures, whole-length (ofBlocks Newest (length (c .before .before .before .before .args .memory .now) / 64)), fixed-few Newest)))
     (λ c κs. search needs)
     (λ c. search needs))

@@ -4,7 +4,7 @@ use mathlib.Core.List.{[], _∷_, _++_}
 use Rattle.isa.specs.Text.{bytes}
 use Rattle.text.specs.Buffer.{wrote}
 use Rattle.thread_lines.proofs.Parts.{after}
-use Rattle.thread_lines.specs.Lines.{stateParts, lineParts}
+use Rattle.thread_lines.specs.Lines.{stateParts, turnsParts, lineParts}
 use Rattle.text.specs.Number.{decimal}
 use Rattle.thread_lines.proofs.line.put_line.Statement.{statement}
 use Rattle.thread_lines.proofs.line.put_line.Tie as tie
@@ -20,14 +20,14 @@ put-line-spec =
     (λ c κs. search needs)
     (λ c κs. search needs)
     (λ c κs. search needs)
-    (λ c. search needs)
     (λ c κs. search needs)
     (λ c. search needs)
     (λ c.
-    let x = c .before .before .before .before .before .before .before .before .before .before .before .before .before .before .before .before .before .before .before .before .before .args in
+    let x = c .before .before .before .before .before .before .before .before .before .before .before .before .before .before .before .before .before .before .before .before .args in
     let p = bytes "thread " ∷ [] in
     let q = decimal (x .thread) ∷ [] in
     let r = stateParts (x .status) (x .pc) in
+    let u = turnsParts (x .turns) in
     let w = wrote (x .at) (x .out .now) in
-    rw (← (c .before .before .before .before .before .before .before .before .before .before .before .before .before .before .before .before .before .before .before .is-idle .ensures), c .before .before .before .before .before .before .before .before .before .before .before .before .before .before .before .before .before .before .if1 .left)
-    (after w (p ++ q ++ r) (bytes "\n" ∷ []) (after w (p ++ q) r (after w p q (c .before .before .before .before .before .before .before .before .before .before .before .before .before .before .before .put-text .ensures) (c .before .before .before .before .before .before .before .before .before .before .before .put-decimal .ensures)) (c .before .before .before .before .before .before .before .put-state .ensures)) (c .before .before .put-text2 .ensures))))
+    rw (← (c .before .before .before .before .before .before .before .before .before .before .before .before .before .before .before .before .before .before .is-idle .ensures), c .before .before .before .before .before .before .before .before .before .before .before .before .before .before .before .before .before .if1 .left)
+    (after w (p ++ q ++ r) u (after w (p ++ q) r (after w p q (c .before .before .before .before .before .before .before .before .before .before .before .before .before .before .put-text .ensures) (c .before .before .before .before .before .before .before .before .before .before .put-decimal .ensures)) (c .before .before .before .before .before .before .put-state .ensures)) (c .before .before .put-turns .ensures))))

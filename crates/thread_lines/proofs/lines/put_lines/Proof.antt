@@ -7,7 +7,7 @@ use borrow.Author.Needs.{needs}
 use lib.ListN.{length}
 use Rattle.thread_lines.specs.Lines.{programCounter}
 use Rattle.text.specs.Buffer.{wrote}
-use Rattle.machine.specs.Machine.{statusAt}
+use Rattle.machine.specs.Machine.{statusAt, turnsAt}
 use Rattle.thread_lines.proofs.Parts.{after}
 use Rattle.thread_lines.proofs.lines.put_lines.Statement.{statement}
 use Rattle.thread_lines.proofs.lines.put_lines.Tie as tie
@@ -32,7 +32,7 @@ loop-again c =
     let m = x .t3 in
     let r = x .registers .now in (
       rw (add-one (l .thread))
-          (after (wrote (x .at) (x .out .now)) (linesParts m r (l .thread)) (lineParts (l .thread) (statusAt m (l .thread)) (programCounter r (l .thread)))
+          (after (wrote (x .at) (x .out .now)) (linesParts m r (l .thread)) (lineParts (l .thread) (statusAt m (l .thread)) (programCounter r (l .thread)) (turnsAt m (l .thread)))
           (l .inv .0) (c .before .before .put-line .ensures)),
       omega arith,
       c .before .before .put-line .kept .0 ∙ l .inv .2,

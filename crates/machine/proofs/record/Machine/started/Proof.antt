@@ -6,7 +6,7 @@ use borrow.Author.Needs.{needs}
 use lib.ListN.{replicate}
 use Rattle.machine.specs.Machine.{zeroThread, startStatus, start, withStatusAt}
 use Rattle.machine.specs.Types.{Machine}
-use Rattle.machine.proofs.Loops.{restated, restatedTo, restate}
+use Rattle.machine.proofs.Loops.{changed, changedTo, change, restating}
 use Rattle.machine.proofs.record.Machine.started.Statement.{statement}
 use Rattle.machine.proofs.record.Machine.started.Tie as tie
 
@@ -15,13 +15,13 @@ abbrev idle : ℕ → Machine
 idle mask = record { enabled = mask; last = 7; threads = replicate 8 zeroThread }
 
 abbrev Inv-loop : tie.InvT-loop
-Inv-loop mask machine₀ t₀ machine t = (t ≤ 8) × (machine ≡ restatedTo (startStatus mask) (idle mask) t)
+Inv-loop mask machine₀ t₀ machine t = (t ≤ 8) × (machine ≡ changedTo (restating (startStatus mask)) (idle mask) t)
 
 abbrev μ-loop : tie.MeasureT-loop
 μ-loop mask machine₀ t₀ machine t = 8 - t
 
 loop-holds : tie.Need-loop-holds Inv-loop μ-loop
-unfolding restated
+unfolding changed
 loop-holds c = (omega arith, ap (λ (m : Machine). record { enabled = c .before .args .mask; last = 7; threads = m .threads }) (c .zero .ensures))
 
 loop-again : tie.Need-loop-again Inv-loop μ-loop
@@ -30,16 +30,16 @@ loop-again c =
     let mask = c .before .before .before .before .before .before .args .mask in (
       omega arith,
       rw (c .with-status .ensures, c .before .start-status .ensures)
-          ((λ j. withStatusAt (l .inv .1 j) (l .t) (startStatus mask (l .t))) ∙ restate (startStatus mask) (idle mask) (l .t) (omega arith)),
+          ((λ j. withStatusAt (l .inv .1 j) (l .t) (startStatus mask (l .t))) ∙ change (restating (startStatus mask)) (idle mask) (l .t) (omega arith)),
     )
 
 returns : tie.Need-returns Inv-loop μ-loop
-unfolding start restated
+unfolding start changed
 returns c =
     let l = c .before .loop in
     let mask = c .before .before .before .args .mask in
     let e : l .t ≡ 8 = omega arith in
-    l .inv .1 ∙ ap (restatedTo (startStatus mask) (idle mask)) e
+    l .inv .1 ∙ ap (changedTo (restating (startStatus mask)) (idle mask)) e
 
 pub started-spec : {M : Type 1} → statement M
 started-spec =
