@@ -48,7 +48,7 @@ extern "C" {
 
 /* Raised whenever an array's length, the place of something in it or the meaning of a number changes: a board's program can ask for the
  * one that it was written for. */
-#define KORVAMMEL_API 3
+#define KORVAMMEL_API 4
 
 /* Words of the register room: thread t (0..7), scalar i at 64t+i; vector i, lane j at 512+1024t+16i+j. */
 #define KORVAMMEL_REGISTERS 8704
@@ -133,12 +133,17 @@ uint32_t korvammel_start(uint32_t mask, uint32_t *registers, size_t registers_le
 #define KORVAMMEL_STUCK 2   /* no thread is running, and one waits at a barrier */
 #define KORVAMMEL_SPENT 3   /* the budget of issues is used up */
 
-/* Numbers that a run reports: how it ended, and how many issues it made. */
-#define KORVAMMEL_RESULT 2
+/* Numbers that a run reports: how it ended, how many issues it made, and how many thread entries it looked at to choose whose turn it is,
+ * the low 32 bits and then the high ones. */
+#define KORVAMMEL_RESULT 4
+
+/* How many entries that is: for each issue the distance from the last thread issued round to its own, 1 to 8; and once more at the end,
+ * 8 where no thread is running. At most 8 times the issues plus 8. */
+#define KORVAMMEL_LOOKS(result) ((uint64_t)(result)[3] << 32 | (result)[2])
 
 /* Runs a program until it is stopped, stuck or spent. Leaves the registers, the memory and the record as the issues made them, and
- * puts how it ended and the number of issues made into `result`. Answers 0, 1, 2, 3, 10 or 4; where it answers a number of the
- * table, `result` becomes 0, 0 (refused, no issue), and all else is left. */
+ * puts how it ended, the number of issues made and its looks into `result`. Answers 0, 1, 2, 3, 10 or 4; where it answers a number of
+ * the table, every number of `result` becomes 0 (refused, no issue, no look), and all else is left. */
 uint32_t korvammel_run(const uint32_t *program, size_t program_length, uint32_t *registers, size_t registers_length, uint8_t *memory,
                        size_t memory_length, uint8_t record[KORVAMMEL_RECORD], uint32_t budget, uint32_t result[KORVAMMEL_RESULT]);
 

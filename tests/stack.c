@@ -32,7 +32,7 @@ static void take_words(void) {
 }
 
 static void make(void) {
-    uint32_t result[2];
+    uint32_t result[KORVAMMEL_RESULT];
     size_t found[KORVAMMEL_HEX_RESULT];
     switch (call) {
     case START: korvammel_start(3, registers, KORVAMMEL_REGISTERS, record); break;

@@ -32,7 +32,7 @@ static void differs(const char *where, int opcode, struct test t, uint32_t found
 
 // Issues sixteen scalar words, one for each case, and one word of lanes, and looks at what they gave.
 static void judge(int opcode, const struct test *tests, int count) {
-    uint32_t words[LANES + 1], result[2], top = (uint32_t)opcode << 24;
+    uint32_t words[LANES + 1], result[KORVAMMEL_RESULT], top = (uint32_t)opcode << 24;
     int is_compare = opcode >= 37 && opcode <= 42, is_unary = opcode >= 48;
     for (uint32_t j = 0; j < LANES; j++) {
         words[j] = top | (D + j) << 18 | (A + j) << 12 | (is_unary ? 0 : (B + j) << 6);

@@ -5,8 +5,8 @@
 
 #include "korvammel.h"
 
-#if KORVAMMEL_API != 3
-#error "night.c was written for version 3 of the library"
+#if KORVAMMEL_API != 4
+#error "night.c was written for version 4 of the library"
 #endif
 
 static uint8_t bytes[4 * 16384 + 1]; // one more than the longest program has, so that a longer file is seen
@@ -52,7 +52,7 @@ int main(int argc, char **argv) {
     }
     size_t words = words_of(size_of(argv[1]));
     uint32_t number = korvammel_start(3, registers, KORVAMMEL_REGISTERS, record);
-    uint32_t result[KORVAMMEL_RESULT] = {0, 0};
+    uint32_t result[KORVAMMEL_RESULT] = {0};
     if (number == 0) number = korvammel_run(program, words, registers, KORVAMMEL_REGISTERS, memory, sizeof memory, record, 1000, result);
     if (number != 0) {
         fprintf(stderr, "refused %u\n", (unsigned)number);
@@ -64,6 +64,7 @@ int main(int argc, char **argv) {
         unsigned address = registers[KORVAMMEL_SCALAR(t, 63)];
         if (status != KORVAMMEL_IDLE) printf("thread %d %s at %08X, %u turns\n", t, statuses[status], address, turns_of(t));
     }
+    printf("looks %llu\n", (unsigned long long)KORVAMMEL_LOOKS(result));
     for (int relay = 64; relay < 77; relay++) putchar(memory[relay] ? '1' : '0');
     putchar('\n');
     if (fflush(stdout) != 0) {

@@ -136,6 +136,7 @@ static struct side {
     const char *name;
     rival_run *run; // none for the library
     double best;
+    uint64_t looks; // of all runs since the start
     uint32_t registers[KORVAMMEL_REGISTERS] __attribute__((aligned(64)));
     uint8_t memory[BYTES] __attribute__((aligned(64)));
     struct rival_record record;
@@ -203,16 +204,19 @@ static void start(uint32_t mask) {
         side->record.last = 7;
         for (int t = 0; t < 8; t++) side->record.threads[t].status = mask >> t & 1;
         side->best = 1e9;
+        side->looks = 0;
     }
 }
 
 static void run_once(struct side *side, const struct workload *w, uint32_t budget) {
-    uint32_t result[2] = {0, 0};
+    uint32_t result[KORVAMMEL_RESULT] = {0};
+    uint64_t looks = 0;
     if (side->run != NULL)
-        result[0] = side->run(w->words, w->length, side->registers, side->memory, BYTES, &side->record, budget, &result[1]);
+        result[0] = side->run(w->words, w->length, side->registers, side->memory, BYTES, &side->record, budget, &result[1], &looks);
     else if (korvammel_run(w->words, w->length, side->registers, KORVAMMEL_REGISTERS, side->memory, BYTES, side->bytes, budget,
                            result) != 0)
         fail("a run was refused");
+    side->looks += side->run != NULL ? looks : KORVAMMEL_LOOKS(result);
     if (result[0] != KORVAMMEL_SPENT || result[1] != budget) fail("a run did not spend its budget");
 }
 
@@ -224,14 +228,14 @@ static void time_runs(struct side *side, const struct workload *w, uint32_t budg
     if (took < side->best) side->best = took;
 }
 
-// All sides have reached the same machine.
+// All sides have reached the same machine, and looked as far for it.
 static void compare_machines(void) {
     const struct side *ours = &sides[0];
     for (size_t i = 1; i < side_count; i++) {
         const struct side *other = &sides[i];
         int same = memcmp(ours->registers, other->registers, sizeof ours->registers) == 0 &&
                    memcmp(ours->memory, other->memory, BYTES) == 0 && ours->bytes[KORVAMMEL_LAST] == other->record.last &&
-                   ours->bytes[KORVAMMEL_ENABLED] == other->record.enabled;
+                   ours->bytes[KORVAMMEL_ENABLED] == other->record.enabled && ours->looks == other->looks;
         for (int t = 0; t < 8; t++) {
             const struct rival_thread *thread = &other->record.threads[t];
             const uint32_t turns = other->record.turns[t];

@@ -124,8 +124,8 @@ ONE_OPERAND(f32toi32, value_1(x) >= -2147483648.0f && value_1(x) < 2147483648.0f
     DO(14, cmpeq) DO(15, cmpne) DO(16, cmpgt) DO(17, cmpge) DO(18, cmplt) \
     DO(19, cmple) DO(20, cmpugt) DO(21, cmpuge) DO(22, cmpult) DO(23, cmpule)
 
-// The first running thread after each, by the set of the running ones.
-static uint8_t next[256][8];
+// The first running thread after each, by the set of the running ones, and how far it is.
+static uint8_t next[256][8], far[256][8];
 
 __attribute__((constructor)) static void fill_next(void) {
     for (int set = 1; set < 256; set++)
@@ -134,6 +134,7 @@ __attribute__((constructor)) static void fill_next(void) {
             do u = (u + 1) % 8;
             while (!(set >> u & 1));
             next[set][t] = (uint8_t)u;
+            far[set][t] = (uint8_t)((u + 7 - t) % 8 + 1);
         }
 }
 
@@ -167,6 +168,7 @@ struct operand {
     do {                                       \
         if (left == 0) goto spent;             \
         left--;                                \
+        looked += away[t];                     \
         t = after[t];                          \
         turns[t]++;                            \
         s = room + 64 * t;                     \
@@ -282,7 +284,7 @@ struct operand {
     }
 
 enum rival_answer RUN(const uint32_t *program, size_t length, uint32_t *room, uint8_t *memory, size_t bytes, struct rival_record *record,
-                      uint32_t budget, uint32_t *issues) {
+                      uint32_t budget, uint32_t *issues, uint64_t *looks) {
 #define R_LABEL(OPCODE, NAME) [OPCODE] = &&r_##NAME,
 #define R_AND_I_LABELS(OPCODE, NAME) [OPCODE] = &&r_##NAME, [0x40 + OPCODE] = &&i_##NAME,
     static const void *const labels[256] = {
@@ -297,10 +299,10 @@ enum rival_answer RUN(const uint32_t *program, size_t length, uint32_t *room, ui
         [0xA0] = &&store8, [0xA1] = &&store16, [0xA2] = &&store32, [0xA8] = &&storev,
     };
     const uint32_t words = (uint32_t)length;
-    const uint8_t *after;
+    const uint8_t *after, *away;
     uint32_t running = 0, left = budget, t = record->last, pc = 0, w = 0, reason;
     uint32_t *s = room;
-    uint64_t address;
+    uint64_t address, looked = 0;
     uint32_t shuffled[16];
     vector space_a, space_b;
     uint32_t turns[8];
@@ -440,12 +442,15 @@ trap:
     running &= ~(1u << t);
 changed:
     after = next[running];
+    away = far[running];
     if (running != 0) ISSUE;
+    looked += 8;
     answer = RIVAL_STOPPED;
     for (int id = 0; id < 32; id++)
         if (arrived[id] > 0) answer = RIVAL_STUCK;
     goto out;
 spent:
+    looked += away[t];
     answer = RIVAL_SPENT;
 out:
     record->last = (uint8_t)t;
@@ -456,5 +461,6 @@ out:
         for (int u = 0; u < 8 && arrived[id] > 0; u++)
             if (waiting[id] >> u & 1) record->threads[u] = (struct rival_thread){WAITING, 0, (uint8_t)id, count[id]};
     *issues = budget - left;
+    *looks = looked;
     return answer;
 }

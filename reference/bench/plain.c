@@ -328,12 +328,14 @@ static void issue(struct machine *m, uint32_t t) {
 }
 
 enum rival_answer RUN(const uint32_t *program, size_t words, uint32_t *room, uint8_t *memory, size_t bytes, struct rival_record *record,
-                      uint32_t budget, uint32_t *issues) {
+                      uint32_t budget, uint32_t *issues, uint64_t *looks) {
     struct machine m = {program, words, room, memory, bytes, record};
+    *looks = 0;
     for (uint32_t made = 0;; made++) {
-        uint32_t t = 8;
-        for (uint32_t k = 1; k <= 8 && t == 8; k++)
+        uint32_t t = 8, k;
+        for (k = 1; k <= 8 && t == 8; k++)
             if (record->threads[(record->last + k) % 8].status == RUNNING) t = (record->last + k) % 8;
+        *looks += k - 1;
         *issues = made;
         if (t == 8) {
             for (int u = 0; u < 8; u++)

@@ -22,7 +22,7 @@ struct rival_record {
 enum rival_answer { RIVAL_STOPPED = 1, RIVAL_STUCK, RIVAL_SPENT };
 
 typedef enum rival_answer rival_run(const uint32_t *program, size_t words, uint32_t *room, uint8_t *memory, size_t bytes,
-                                    struct rival_record *record, uint32_t budget, uint32_t *issues);
+                                    struct rival_record *record, uint32_t budget, uint32_t *issues, uint64_t *looks);
 
 // The builds, by name: flat ones first.
 struct rival {

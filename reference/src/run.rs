@@ -341,13 +341,15 @@ fn issue(program: &[u32], room: &mut [u32], memory: &mut [u8], record: &mut Reco
     moved
 }
 
-/// "The first running thread after "last", going round upwards from 7 to 0"
+/// "The first running thread after "last", going round upwards from 7 to 0", by its distance from "last"
 fn chosen(record: &Record) -> Option<usize> {
-    (1..=8).map(|k| (record.last as usize + k) % 8).find(|t| record.threads[*t] == Status::Running)
+    (1..=8).find(|k| record.threads[(record.last as usize + k) % 8] == Status::Running)
 }
 
-/// A run: the answer, or a number of the table, and the number of issues made.
-pub fn run(program: &[u32], room: &mut [u32], memory: &mut [u8], record: &mut Record, budget: u32) -> (Result<Ending, u8>, u32) {
+/// What a run reports: the answer, or a number of the table; the number of issues made; and how many entries were looked at.
+pub type Report = (Result<Ending, u8>, u32, u64);
+
+pub fn run(program: &[u32], room: &mut [u32], memory: &mut [u8], record: &mut Record, budget: u32) -> Report {
     run_seen(program, room, memory, record, budget, |_, _| ())
 }
 
@@ -359,28 +361,34 @@ pub fn run_seen(
     record: &mut Record,
     budget: u32,
     mut seen: impl FnMut(usize, Option<Moved>),
-) -> (Result<Ending, u8>, u32) {
+) -> Report {
     if program.is_empty() || program.len() > 16384 {
-        return (Err(1), 0);
+        return (Err(1), 0, 0);
     }
     if room.len() != ROOM_WORDS {
-        return (Err(2), 0);
+        return (Err(2), 0, 0);
     }
     if !memory_allowed(memory.len()) {
-        return (Err(3), 0);
+        return (Err(3), 0, 0);
     }
     if !record.well_formed() {
-        return (Err(4), 0);
+        return (Err(4), 0, 0);
     }
     let mut made = 0;
+    let mut looks = 0;
     loop {
-        let Some(t) = chosen(record) else {
+        let Some(distance) = chosen(record) else {
+            // document 02, T-13: "for a search that finds none, 8"
+            looks += 8;
             let waits = record.threads.iter().any(|s| matches!(s, Status::Waiting { .. }));
-            return (Ok(if waits { Ending::Stuck } else { Ending::Stopped }), made);
+            return (Ok(if waits { Ending::Stuck } else { Ending::Stopped }), made, looks);
         };
+        // "the final look before *spent* counts its distance too"
+        looks += distance as u64;
         if made == budget {
-            return (Ok(Ending::Spent), made);
+            return (Ok(Ending::Spent), made, looks);
         }
+        let t = (record.last as usize + distance) % 8;
         seen(t, issue(program, room, memory, record, t));
         made += 1;
     }
@@ -413,7 +421,7 @@ mod tests {
             let mut record = start(1, &mut room).unwrap();
             (room[59], room[1]) = (5, 0x1234_5678);
             room[512 + 16..512 + 32].fill(0x1234_5678);
-            assert_eq!(run(&[word, word | 2], &mut room, &mut memory, &mut record, 2), (Ok(Ending::Spent), 2));
+            assert_eq!(run(&[word, word | 2], &mut room, &mut memory, &mut record, 2), (Ok(Ending::Spent), 2, 1 + 8 + 8));
             assert_eq!((room[1], room[512 + 16], room[512 + 17], room[512 + 18]), (scalar, scalar, 0x1234_5678, scalar));
         }
     }
@@ -427,7 +435,7 @@ mod tests {
         for j in 0..16 {
             (room[512 + 16 + j], room[512 + 48 + j]) = (j as u32, 7);
         }
-        assert_eq!(run(&[0x040C108C], &mut room, &mut memory, &mut record, 1), (Ok(Ending::Spent), 1));
+        assert_eq!(run(&[0x040C108C], &mut room, &mut memory, &mut record, 1), (Ok(Ending::Spent), 1, 1 + 8));
         let mut expected = [7; 16];
         (expected[0], expected[2]) = (10, 12);
         assert_eq!(room[512 + 48..512 + 64], expected);
@@ -479,7 +487,7 @@ mod tests {
             (room[512 + 16 + j], room[512 + 1024 + 16 + j]) = (j as u32, 0x100 + j as u32);
         }
         room[64 + 59] = 0xFFFE;
-        assert_eq!(run(&[0xA804_1000], &mut room, &mut memory, &mut record, 2), (Ok(Ending::Spent), 2));
+        assert_eq!(run(&[0xA804_1000], &mut room, &mut memory, &mut record, 2), (Ok(Ending::Spent), 2, 1 + 1 + 7));
         let word = |at: usize| u32::from_le_bytes(memory[at..at + 4].try_into().unwrap());
         for at in (0..192).step_by(4) {
             let expected = match at {
@@ -491,16 +499,16 @@ mod tests {
         }
     }
 
-    /// "0x70000000 alone, mask 7, budget 7: issues 0,1,2,0,1,2,0, spent. Budget 0: spent, 0."
+    /// "0x70000000 alone, mask 7, budget 7: issues 0,1,2,0,1,2,0, spent. Budget 0: spent, 0." From 2 round to 0 it is 6; the last look finds 1.
     #[test]
     fn order() {
         let (mut room, mut memory) = (room(), vec![0; 64]);
         let mut record = start(7, &mut room).unwrap();
         let mut threads = vec![];
         let answer = run_seen(&[0x7000_0000], &mut room, &mut memory, &mut record, 7, |t, _| threads.push(t));
-        assert_eq!(answer, (Ok(Ending::Spent), 7));
+        assert_eq!(answer, (Ok(Ending::Spent), 7, (1 + 1 + 1) + (6 + 1 + 1) + 6 + 1));
         assert_eq!(threads, [0, 1, 2, 0, 1, 2, 0]);
-        assert_eq!(run(&[0x7000_0000], &mut room, &mut memory, &mut record, 0), (Ok(Ending::Spent), 0));
+        assert_eq!(run(&[0x7000_0000], &mut room, &mut memory, &mut record, 0), (Ok(Ending::Spent), 0, 1));
     }
 
     /// Document 02, T-05: "its issues since start, trapping ones too, wrapping at 2^32. readcr 16 gives the value before its own issue."
@@ -512,16 +520,28 @@ mod tests {
         assert_eq!(record.turns, [0; 8]);
         record.turns[1] = 0xFFFF_FFFF;
         record.turns[2] = 9;
-        assert_eq!(run(&[0x62080040, 0x79042000, 0], &mut room, &mut memory, &mut record, 5), (Ok(Ending::Spent), 5));
-        assert_eq!(run(&[0x62080040, 0x79042000, 0], &mut room, &mut memory, &mut record, 5), (Ok(Ending::Stopped), 1));
+        assert_eq!(run(&[0x62080040, 0x79042000, 0], &mut room, &mut memory, &mut record, 5), (Ok(Ending::Spent), 5, (1 + 1) + (7 + 1) + 7 + 1));
+        assert_eq!(run(&[0x62080040, 0x79042000, 0], &mut room, &mut memory, &mut record, 5), (Ok(Ending::Stopped), 1, 1 + 8));
         assert_eq!((room[1], room[64 + 1]), (1, 0));
         assert_eq!(record.turns, [3, 2, 9, 0, 0, 0, 0, 0]);
+    }
+
+    /// Document 02, T-13: "the distance from "last" round to the thread chosen, 1 to 8; for a search that finds none, 8". Each thread ends.
+    #[test]
+    fn looks() {
+        let cases = [(0xFF, 8, 8 * 1 + 8), (0x80, 1, 8 + 8), (0x11, 2, 1 + 4 + 8), (0x81, 2, 1 + 7 + 8)];
+        for (mask, issues, looks) in cases {
+            let (mut room, mut memory) = (room(), vec![0; 64]);
+            let mut record = start(mask, &mut room).unwrap();
+            assert_eq!(run(&[0x7A00_0000], &mut room, &mut memory, &mut record, 100), (Ok(Ending::Stopped), issues, looks), "mask {mask}");
+            assert_eq!(run(&[0x7A00_0000], &mut room, &mut memory, &mut record, 0), (Ok(Ending::Stopped), 0, 8));
+        }
     }
 
     /// "0x62040004, 0x78001000, 0x7A000000: budget 100: mask 3 stops after 6; mask 1 is stuck after 2."
     #[test]
     fn barrier() {
-        for (mask, answer) in [(3, (Ok(Ending::Stopped), 6)), (1, (Ok(Ending::Stuck), 2))] {
+        for (mask, answer) in [(3, (Ok(Ending::Stopped), 6, (1 + 1) + (7 + 1) + (7 + 1) + 8)), (1, (Ok(Ending::Stuck), 2, 1 + 8 + 8))] {
             let (mut room, mut memory) = (room(), vec![0; 64]);
             let mut record = start(mask, &mut room).unwrap();
             assert_eq!(run(&[0x62040004, 0x78001000, 0x7A000000], &mut room, &mut memory, &mut record, 100), answer);
@@ -534,12 +554,12 @@ mod tests {
         let (mut room, mut memory, mut short) = (room(), vec![0; 64], vec![0; 8703]);
         let mut bad = ZERO;
         let long = vec![0; 16385];
-        assert_eq!(run(&[], &mut short, &mut [], &mut bad, 9), (Err(1), 0));
-        assert_eq!(run(&long, &mut short, &mut [], &mut bad, 9), (Err(1), 0));
-        assert_eq!(run(&[0], &mut short, &mut [], &mut bad, 9), (Err(2), 0));
-        assert_eq!(run(&[0], &mut room, &mut [], &mut bad, 9), (Err(3), 0));
-        assert_eq!(run(&[0], &mut room, &mut [0; 96], &mut bad, 9), (Err(3), 0));
-        assert_eq!(run(&[0], &mut room, &mut memory, &mut bad, 9), (Err(4), 0));
+        assert_eq!(run(&[], &mut short, &mut [], &mut bad, 9), (Err(1), 0, 0));
+        assert_eq!(run(&long, &mut short, &mut [], &mut bad, 9), (Err(1), 0, 0));
+        assert_eq!(run(&[0], &mut short, &mut [], &mut bad, 9), (Err(2), 0, 0));
+        assert_eq!(run(&[0], &mut room, &mut [], &mut bad, 9), (Err(3), 0, 0));
+        assert_eq!(run(&[0], &mut room, &mut [0; 96], &mut bad, 9), (Err(3), 0, 0));
+        assert_eq!(run(&[0], &mut room, &mut memory, &mut bad, 9), (Err(4), 0, 0));
         assert_eq!((start(0, &mut short), start(0, &mut room), start(256, &mut room)), (Err(2), Err(5), Err(5)));
     }
 }

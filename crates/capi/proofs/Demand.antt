@@ -1,5 +1,5 @@
 -- Demand 3 holds of a list of calls of korvammel_run: read as a board reads it, it is a list of runs.
-use Prim.Native.Nat.{ℕ, _<_, _^_}
+use Prim.Native.Nat.{ℕ, _+_, _*_, _/_, _%_, _<_, _^_}
 use mathlib.Core.Bool.{Bool, true, false, not, cond}
 use mathlib.Core.List.{List, [], _∷_, map}
 use mathlib.Core.Option.{Option, none, some}
@@ -32,7 +32,7 @@ use Rattle.capi.specs.Answer.{endingOf}
 use Rattle.capi.specs.Demand.{RunCall, heldIn, RunCalls, endingIn, told, asCall, BoardDemandHolds}
 use Rattle.answer.specs.Refusal.{lengthChecks, lengthsNumber}
 use Rattle.capi.specs.Refusal.{runNumber}
-use Rattle.capi.specs.Runs.{ran, done, runCall}
+use Rattle.capi.specs.Runs.{ran, done, noResult, runCall}
 
 -- a record's bytes, written of a well-formed record, are accepted and hold it
 module _ (m : Machine) (w : wellFormed m ≡ true) (counts : Words (turnsOf m)) where
@@ -49,12 +49,16 @@ ending-read stopped = refl
 ending-read stuck = refl
 ending-read spent = refl
 
+-- a number of looks is read as it was written
+halves : (n : ℕ) → n % 2 ^ 32 + 2 ^ 32 * (n / 2 ^ 32) ≡ n
+halves n = omega arith
+
 -- what a call tells of a run that was made is that run's outcome
 told-done : (o : Outcome) (e : Ending) → o .answer ≡ given e → wellFormed (o .left .machine) ≡ true → Words (turnsOf (o .left .machine)) → told (done o) ≡ o
 told-done o e h w counts =
     let a : given (endingIn (endingOf (o .answer))) ≡ o .answer = ap (λ x. given (endingIn (endingOf x))) h ∙ ap given (ending-read e) ∙ sym h in
     let m = written-held (o .left .machine) w counts in
-    (λ i. record { answer = a i; issues = o .issues; left = state (m i) (o .left .registers) (o .left .memory) })
+    (λ i. record { answer = a i; issues = o .issues; looks = halves (o .looks) i; left = state (m i) (o .left .registers) (o .left .memory) })
 
 -- the outcome of a run
 run-answer : (p : List ℕ) (b : ℕ) (s : State) → number p s ≡ none → run p b s .answer ≡ given (endingAt (reached p b s))
@@ -115,11 +119,11 @@ module _ (p : List ℕ) (b : ℕ) (registers memory opening : List ℕ) (h : ope
     where
       go : (o : Option ℕ) → lengths ≡ o → told (runCall p b registers memory opening) ≡ run p b held
       go none e =
-          ap (λ o. told (refusedOr o (λ n. ran n (0 ∷ 0 ∷ []) registers memory opening) (done (run p b held)))) (call-number ∙ e)
+          ap (λ o. told (refusedOr o (λ n. ran n noResult registers memory opening) (done (run p b held)))) (call-number ∙ e)
           ∙ told-done (run p b held) (endingAt (reached p b held)) (run-answer p b held (held-number ∙ e)) (run-well-formed p b held held-well-formed) (counts-left p b held counts)
       go (some n) e =
-          ap (λ o. told (refusedOr o (λ k. ran k (0 ∷ 0 ∷ []) registers memory opening) (done (run p b held)))) (call-number ∙ e)
-          ∙ ap (λ x. record { answer = cond x (given spent) (refused n); issues = 0; left = held }) (not-zero _ _ _ n e)
+          ap (λ o. told (refusedOr o (λ k. ran k noResult registers memory opening) (done (run p b held)))) (call-number ∙ e)
+          ∙ ap (λ x. record { answer = cond x (given spent) (refused n); issues = 0; looks = 0; left = held }) (not-zero _ _ _ n e)
           ∙ run-refused p b held n (held-number ∙ e)
 
   -- the bytes that a call leaves are accepted

@@ -1,5 +1,5 @@
 -- Demand 3 (document 00, 3) for a board: a list of calls of korvammel_run, with the machine record as bytes.
-use Prim.Native.Nat.{ℕ}
+use Prim.Native.Nat.{ℕ, _+_, _*_, _^_}
 use mathlib.Core.Bool.{cond}
 use mathlib.Core.List.{List, [], _∷_, map}
 use mathlib.Core.Option.{none}
@@ -43,6 +43,7 @@ told r =
     record {
       answer = cond (eqb (r .answer) 0) (given (endingIn (getD (r .result) 0 0))) (refused (r .answer));
       issues = getD (r .result) 1 0;
+      looks = getD (r .result) 2 0 + 2 ^ 32 * getD (r .result) 3 0;
       left = heldIn (r .registers) (r .memory) (r .opening);
     }
 

@@ -1,5 +1,5 @@
 -- A start and a run, with the machine record as bytes.
-use Prim.Native.Nat.{ℕ}
+use Prim.Native.Nat.{ℕ, _/_, _%_, _^_}
 use mathlib.Core.List.{List, [], _∷_}
 use Rattle.answer.specs.Refusal.{refusedOr}
 use Rattle.machine.specs.State.{state}
@@ -26,7 +26,7 @@ beginning b = begun (numberOf (b .answer)) (b .registers) (recordBytes (b .machi
 unfoldable pub startCall : ℕ → List ℕ → Begun
 startCall mask registers = beginning (start mask registers)
 
--- what a run answers and leaves: how it ended and its issues, the register file, the memory, and the bytes of the record
+-- what a run answers and leaves: its result, the register file, the memory, and the bytes of the record
 pub record Ran : Type 0 where
   pub answer : ℕ
   pub result : List ℕ
@@ -38,12 +38,20 @@ abbrev pub ran : ℕ → List ℕ → List ℕ → List ℕ → List ℕ → Ran
 ran answer result registers memory opening =
     record { answer = answer; result = result; registers = registers; memory = memory; opening = opening }
 
-abbrev pub done : Outcome → Ran
-done o = ran 0 (endingOf (o .answer) ∷ o .issues ∷ []) (o .left .registers) (o .left .memory) (recordBytes (o .left .machine))
+-- the result: how it ended, its issues, and how many entries it looked at, the low half first
+abbrev pub resultOf : Outcome → List ℕ
+resultOf o = endingOf (o .answer) ∷ o .issues ∷ o .looks % 2 ^ 32 ∷ o .looks / 2 ^ 32 ∷ []
 
--- "A refusal changes no lent buffer and hands back the record it got"; "A refused run reports 0 issues"
+abbrev pub noResult : List ℕ
+noResult = 0 ∷ 0 ∷ 0 ∷ 0 ∷ []
+
+abbrev pub done : Outcome → Ran
+done o = ran 0 (resultOf o) (o .left .registers) (o .left .memory) (recordBytes (o .left .machine))
+
+-- "A refusal changes no lent buffer and hands back the record it got"; "A refused run reports 0 issues"; and of looks "a refused call
+-- reports 0" (02, T-13)
 unfoldable pub runCall : List ℕ → ℕ → List ℕ → List ℕ → List ℕ → Ran
 runCall program budget registers memory opening =
     refusedOr (runNumber program registers memory opening)
-    (λ number. ran number (0 ∷ 0 ∷ []) registers memory opening)
+    (λ number. ran number noResult registers memory opening)
     (done (run program budget (state (machineIn noBlocks opening) registers memory)))

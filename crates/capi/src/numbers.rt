@@ -1,4 +1,5 @@
 // Answers as the numbers that the calls give back: 0, or a number of document 01's table.
+ghost use Prim.Native.Nat.{_/_, _%_, _^_};
 ghost use mathlib.Core.Path.{_≡_};
 ghost use Rattle.image.specs.Answer.{writeAnswered, readAnswered};
 ghost use Rattle.interpreter.specs.Answer.{startAnswered, answered};
@@ -51,4 +52,17 @@ pub fn ending(answer: RunAnswer) -> u32
         RunAnswer::Stuck => 2,
         RunAnswer::Spent => 3,
     }
+}
+
+// A number of 64 bits as two of 32.
+pub fn low_half(n: u64) -> u32
+    ensures { λ r. ⌜ r ≡ n % 2 ^ 32 ⌝ }
+{
+    (n % 0x100000000) as u32
+}
+
+pub fn high_half(n: u64) -> u32
+    ensures { λ r. ⌜ r ≡ n / 2 ^ 32 ⌝ }
+{
+    (n / 0x100000000) as u32
 }

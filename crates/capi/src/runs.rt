@@ -2,6 +2,8 @@
 ghost use mathlib.Core.Path.{_≡_};
 ghost use Rattle.capi.specs.Runs.{begun, startCall, ran, runCall};
 use crate::numbers::ending;
+use crate::numbers::high_half;
+use crate::numbers::low_half;
 use crate::numbers::start_number;
 use crate::numbers::wide;
 use answer::Verdict;
@@ -33,7 +35,7 @@ pub extern "C" fn korvammel_run(
     memory: &mut [u8],
     bytes: &mut [u8; RECORD_LENGTH],
     budget: u32,
-    result: &mut [u32; 2],
+    result: &mut [u32; 4],
 ) -> u32
     ensures { λ r. ⌜ ran r (now (result .exit)) (now (registers .exit)) (now (memory .exit)) (now (bytes .exit)) ≡ runCall (now (program .entry)) budget (now (registers .entry)) (now (memory .entry)) (now (bytes .entry)) ⌝ }
 {
@@ -44,16 +46,17 @@ pub extern "C" fn korvammel_run(
     let verdict = first_refusal(lengths, content);
     match verdict {
         Verdict::Refused(number) => {
-            *result = [0, 0];
+            *result = [0, 0, 0, 0];
             wide(number)
         }
         Verdict::Accepted => {
             let run = interpreter::run(program, registers, memory, machine, budget);
             let answer = run.answer;
             let issues = run.issues;
+            let looks = run.looks;
             let reached = run.machine;
             image::write_record(reached, bytes);
-            *result = [ending(answer), issues];
+            *result = [ending(answer), issues, low_half(looks), high_half(looks)];
             0
         }
     }

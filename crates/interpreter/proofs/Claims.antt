@@ -10,6 +10,9 @@ pub use Rattle.interpreter.proofs.Runs.{
   answers-number,
   taken-well-formed,
   no-budget,
+  looks-within,
+  no-budget-looks,
+  refused-looks,
 }
 pub use Rattle.interpreter.proofs.Endings.{ends-by-record}
 pub use Rattle.interpreter.proofs.Fairness.{some-enabled, eight-at-most, turns-fair, demand}

@@ -16,10 +16,10 @@ use Rattle.machine.specs.Claims.{KeepsRecord}
 use Rattle.machine.specs.Scheduler.{choice, withLast}
 use Rattle.machine.specs.WellFormed.{wellFormed}
 use Rattle.interpreter.specs.Answer.{spent}
-use Rattle.interpreter.specs.Choosing.{ifChosen, performed, issued, issues, reachedBy, reached, idleEnding, endingAt}
+use Rattle.interpreter.specs.Choosing.{ifChosen, performed, issued, issues, reachedBy, reached, idleEnding, endingAt, entriesTo, look, looksFor}
 use Rattle.interpreter.specs.Run.{acceptedRun}
-use Rattle.interpreter.specs.Stretch.{Carried, Over}
-use Rattle.interpreter.specs.Types.{Machine, Choice, Chosen, NoneRunning}
+use Rattle.interpreter.specs.Stretch.{Carried, Over, Stretched}
+use Rattle.interpreter.specs.Types.{Machine, Choice, Chosen, NoneRunning, Stretch}
 
 -- the thread chosen is one of the eight
 pub chosen-thread : (m : Machine) (t d : ℕ) → choice m ≡ Chosen t d → t < 8
@@ -98,6 +98,10 @@ module _ (p : List ℕ) (s : State) where
     unfolding endingAt
     ending-none = rw h
 
+    pub look-none : look s ≡ 8
+    unfolding look
+    look-none = ap entriesTo h
+
   -- else the thread chosen is, if anything is left of the budget
   module _ (t d : ℕ) (h : choice (s .machine) ≡ Chosen t d) where
     pub reached-step : (b : ℕ) → reached p (suc b) s ≡ reached p b (issued p s t)
@@ -111,44 +115,72 @@ module _ (p : List ℕ) (s : State) where
     unfolding endingAt
     ending-some = rw h
 
-pub carried-start : (p : List ℕ) (b : ℕ) (s : State) → Carried p b s 0 s
+    pub look-some : look s ≡ d
+    unfolding look
+    look-some = ap entriesTo h
+
+    pub looks-step : (b : ℕ) → looksFor (issues p (suc b) s) ≡ d + looksFor (issues p b (issued p s t))
+    unfolding looksFor
+    looks-step b = ap looksFor (issues-step b) ∙ ap (λ n. n + looksFor (issues p b (issued p s t))) look-some
+
+pub carried-start : (p : List ℕ) (b : ℕ) (s : State) → Carried p b s 0 0 s
 carried-start p b s =
     let e : b - 0 ≡ b = omega arith in
-    record { state = rw e; count = rw e (omega arith) }
+    record { state = rw e; count = rw e (omega arith); looks = rw e (omega arith) }
 
-module _ (p : List ℕ) (b : ℕ) (first : State) (made : ℕ) (s : State) (k : Carried p b first made s) where
+module _ (p : List ℕ) (b : ℕ) (first : State) (made looked : ℕ) (s : State) (k : Carried p b first made looked s) where
   -- one issue more
-  pub carried-step : (t d : ℕ) → choice (s .machine) ≡ Chosen t d → made < b → Carried p b first (made + 1) (issued p s t)
+  pub carried-step : (t d : ℕ) → choice (s .machine) ≡ Chosen t d → made < b → Carried p b first (made + 1) (looked + d) (issued p s t)
   carried-step t d h l =
       let e : b - made ≡ suc (b - (made + 1)) = omega arith in
       let f : reached p (b - made) s ≡ reached p (b - (made + 1)) (issued p s t) = rw e (reached-step p s t d h (b - (made + 1))) in
       let g : length (issues p (b - made) s) ≡ suc (length (issues p (b - (made + 1)) (issued p s t))) = rw e (ap length (issues-step p s t d h (b - (made + 1)))) in
-      record { state = k .state ∙ f; count = omega (arith, k .count, g) }
+      let i : looksFor (issues p (b - made) s) ≡ d + looksFor (issues p (b - (made + 1)) (issued p s t)) =
+      rw e (looks-step p s t d h (b - (made + 1))) in
+      record { state = k .state ∙ f; count = omega (arith, k .count, g); looks = omega (arith, k .looks, i) }
 
   -- and more of them, from there with what is left of the budget
-  pub carried-on : (more : ℕ) (t : State) → Carried p (b - made) s more t → Carried p b first (made + more) t
-  carried-on more t j =
+  pub carried-on : (more further : ℕ) (t : State) → Carried p (b - made) s more further t → Carried p b first (made + more) (looked + further) t
+  carried-on more further t j =
       let e : b - made - more ≡ b - (made + more) = omega arith in
-      record { state = k .state ∙ j .state ∙ ap (λ n. reached p n t) e; count = rw (← e) (omega (arith, k .count, j .count)) }
+      record {
+        state = k .state ∙ j .state ∙ ap (λ n. reached p n t) e;
+        count = rw (← e) (omega (arith, k .count, j .count));
+        looks = rw (← e) (omega (arith, k .looks, j .looks));
+      }
 
 -- the same of the call that performs it, on the record m with which the thread chosen is issued, with the counts beside it
-pub carried-issue : (p : List ℕ) (b : ℕ) (first : State) (made : ℕ) (s : State) (turns : List ℕ) → Carried p b first made (recounted s turns)
+pub carried-issue : (p : List ℕ) (b : ℕ) (first : State) (made looked : ℕ) (s : State) (turns : List ℕ)
+    → Carried p b first made looked (recounted s turns)
     → (t d : ℕ) (m : Machine) (after : State) → length p ≤ 16384 → length (s .registers) ≡ 8704 → length turns ≡ 8
     → choice (s .machine) ≡ Chosen t d → m ≡ withLast (s .machine) t → made < b
-    → after ≡ issue p (state m (s .registers) (s .memory)) t (getD turns t 0) → Carried p b first (made + 1) (recounted after (raised turns t))
-carried-issue p b first made s turns k t d m after words regs size h e l i =
+    → after ≡ issue p (state m (s .registers) (s .memory)) t (getD turns t 0) → Carried p b first (made + 1) (looked + d) (recounted after (raised turns t))
+carried-issue p b first made looked s turns k t d m after words regs size h e l i =
     rw (ap (λ (n : State). recounted n (raised turns t)) i ∙ issue-performed p s turns t d m words regs size h e)
-    (carried-step p b first made (recounted s turns) k t d (chosen-beside s turns h) l)
+    (carried-step p b first made looked (recounted s turns) k t d (chosen-beside s turns h) l)
+
+-- the looks of a stretch, after which the run goes on or is over
+module _ (p : List ℕ) (b : ℕ) (first : State) (r : Stretch) (s : State) (k : Stretched p b first r s) where
+  pub goes-on : r .changed ≡ true → Carried p b first (r .made) (r .looks) s
+  goes-on h =
+      let e : r .looks ≡ k .looked = k .looks ∙ ap (λ x. k .looked + cond x 0 (look s)) h ∙ omega arith in
+      rw e (k .carried)
+
+  pub looks-over : r .changed ≡ false → r .looks ≡ k .looked + look s
+  looks-over h = k .looks ∙ ap (λ x. k .looked + cond x 0 (look s)) h
 
 -- what the run answers, where it ends after these
-pub ends : (p : List ℕ) (b : ℕ) (first : State) (made : ℕ) (s : State) → Carried p b first made s → (more : ℕ) (t : State) → Carried p (b - made) s more t
-    → (running : Bool) → Over p (b - made - more) t running
-    → record { answer = given (cond running spent (idleEnding (t .machine))); issues = made + more; left = t } ≡ acceptedRun p b first
-unfolding acceptedRun
-ends p b first made s k more t j running o =
+pub ends : (p : List ℕ) (b : ℕ) (first : State) (made looked : ℕ) (s : State) → Carried p b first made looked s
+    → (more further : ℕ) (t : State) → Carried p (b - made) s more further t
+    → (running : Bool) → Over p (b - made - more) t running → (looks : ℕ) → looks ≡ further + look t
+    → record { answer = given (cond running spent (idleEnding (t .machine))); issues = made + more; looks = looked + looks; left = t }
+    ≡ acceptedRun p b first
+unfolding acceptedRun looksFor
+ends p b first made looked s k more further t j running o looks e =
     let f : reached p b first ≡ t = k .state ∙ j .state ∙ o .stays in
     let g : length (issues p b first) ≡ made + more = omega (arith, k .count, j .count, ap length (o .none)) in
-    rw (f, g, o .ending)
+    let h : looksFor (issues p b first) + look t ≡ looked + looks = omega (arith, k .looks, j .looks, ap looksFor (o .none), e) in
+    rw (f, g, h, o .ending)
 
 -- no thread is running
 pub over-idle : (p : List ℕ) (left : ℕ) (s : State) → choice (s .machine) ≡ NoneRunning → Over p left s false

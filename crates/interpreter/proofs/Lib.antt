@@ -2,6 +2,7 @@
 pub mod Rooms
 pub mod Refusals
 pub mod Issuing
+pub mod Looks
 pub mod RoundRobin
 pub mod Fairness
 pub mod Runs

@@ -16,7 +16,7 @@ use Rattle.machine.specs.Machine.{zeroed, start as startRecord}
 use Rattle.machine.specs.WellFormed.{wellFormed}
 use Rattle.answer.specs.Refusal.{badProgram, badRegisters, badMemory, badMask, firstThatApplies}
 use Rattle.interpreter.specs.Refusal.{badRecord, startNumber, runNumber}
-use Rattle.interpreter.specs.Run.{number, runIssues, runReached, runAnswer, acceptedRun, run}
+use Rattle.interpreter.specs.Run.{number, runIssues, runReached, runAnswer, runLooks, acceptedRun, run}
 use Rattle.interpreter.specs.Start.{zeroes, withMasks, start}
 use Rattle.interpreter.specs.Types.{Machine}
 
@@ -78,10 +78,10 @@ module _ (words regs bytes : ℕ) (m : Machine) where
     taken-regs = eqb-true regs 8704 (not-false (eqb regs 8704) (k .registers))
 
 module _ (p : List ℕ) (b : ℕ) (s : State) where
-  pub run-refused : (n : ℕ) → number p s ≡ some n → record { answer = refused n; issues = 0; left = s } ≡ run p b s
-  unfolding run runIssues runReached runAnswer
+  pub run-refused : (n : ℕ) → number p s ≡ some n → record { answer = refused n; issues = 0; looks = 0; left = s } ≡ run p b s
+  unfolding run runIssues runReached runAnswer runLooks
   run-refused n h = rw h
 
   pub run-accepted : number p s ≡ none → acceptedRun p b s ≡ run p b s
-  unfolding run runIssues runReached runAnswer acceptedRun
+  unfolding run runIssues runReached runAnswer runLooks acceptedRun
   run-accepted h = rw h

@@ -1,5 +1,5 @@
 -- What a run keeps, and what two runs of one program make together.
-use Prim.Native.Nat.{ℕ, zero, suc, _+_, _≤_}
+use Prim.Native.Nat.{ℕ, zero, suc, _+_, _*_, _≤_}
 use mathlib.Core.Bool.{Bool, true, false, cond}
 use mathlib.Core.List.{List, [], _∷_, _++_}
 use mathlib.Core.Option.{Option, none, some}
@@ -13,12 +13,14 @@ use Rattle.machine.specs.State.{State, state}
 use Rattle.machine.specs.Scheduler.{choice, withLast, someWaits}
 use Rattle.machine.specs.WellFormed.{wellFormed}
 use Rattle.interpreter.specs.Answer.{stopped, stuck, spent}
-use Rattle.interpreter.specs.Choosing.{Issue, ifChosen, issued, issues, reached, idleEnding, endingAt}
-use Rattle.interpreter.specs.Claims.{StaysWellFormed, MaskStays, LengthsStay, WithinBudget, SpendsBudget, Composed, Composes, numberIn, AnswersNumber, TakenWellFormed, NoBudget}
+use Rattle.interpreter.specs.Choosing.{Issue, ifChosen, issued, issues, reached, idleEnding, endingAt, look, looksFor}
+use Rattle.interpreter.specs.Claims.{StaysWellFormed, MaskStays, LengthsStay, WithinBudget, SpendsBudget, Composed, Composes, numberIn, AnswersNumber, TakenWellFormed, NoBudget, LooksBounded, LooksWithin, NoBudgetLooks, RefusedLooks}
 use Rattle.answer.specs.Refusal.{refusedOr}
-use Rattle.interpreter.specs.Run.{number, runIssues, runReached, runAnswer}
-use Rattle.interpreter.specs.Types.{Choice, Chosen, NoneRunning}
+use Rattle.interpreter.specs.Run.{number, runIssues, runReached, runAnswer, runLooks}
+use Rattle.interpreter.specs.Stretch.{Carried, Stretched}
+use Rattle.interpreter.specs.Types.{Choice, Chosen, NoneRunning, Stretch}
 use Rattle.interpreter.proofs.Issuing.{issued-sound, issued-well-formed, reached-nothing, reached-one-more, reached-none, issues-none, ending-none}
+use Rattle.interpreter.proofs.Looks.{look-bounds, looks-bounds, looks-append}
 use Rattle.interpreter.proofs.Refusals.{run-taken, taken-run}
 
 -- what each issue of the thread chosen keeps, a run keeps
@@ -123,6 +125,19 @@ spends-budget p b s h = go (number p s) h
     go none e = let f : endingAt (reached p b s) ≡ spent = cc in spent-whole p b s f
     go (some n) e = absurd (let z : _≡_ {A = ℕ} 0 1 = cc in omega arith)
 
+-- a run from a state looks at no more than 64 bits hold, whatever it has come to
+pub carried-within : (p : List ℕ) (b : ℕ) (first : State) (made looked : ℕ) (s : State) → Carried p b first made looked s → looked ≤ 8 * b
+carried-within p b first made looked s k =
+    omega (arith, k .looks, looks-bounds (issues p b first) .1, issues-within p b first)
+
+pub stretched-within : (p : List ℕ) (b : ℕ) (first : State) (r : Stretch) (s : State) → Stretched p b first r s → r .looks ≤ 8 * b + 8
+stretched-within p b first r s k =
+    omega (arith, k .looks, carried-within p b first (r .made) (k .looked) s (k .carried), last (r .changed))
+  where
+    last : (changed : Bool) → cond changed 0 (look s) ≤ 8
+    last true = omega arith
+    last false = look-bounds s .1
+
 -- Two runs.
 
 module _ (p : List ℕ) (m : ℕ) where
@@ -151,6 +166,15 @@ module _ (p : List ℕ) (m : ℕ) where
       go (Chosen t d) e more = ap {B = List Issue} (λ is. record { before = s; thread = t } ∷ is) (more t)
       go NoneRunning e more = sym (issues-none p s e m)
 
+  -- both look at the state between them
+  looks-add : (n : ℕ) (s : State) → looksFor (issues p (n + m) s) ≡ looksFor (issues p n s) + looksFor (issues p m (reached p n s))
+  looks-add n s = ap looksFor (issues-add n s) ∙ looks-append (issues p n s) (issues p m (reached p n s))
+
+-- with no budget there is the last look alone
+looks-nothing : (p : List ℕ) (s : State) → looksFor (issues p 0 s) + look (reached p 0 s) ≡ look s
+unfolding issues looksFor
+looks-nothing p s = ap (λ (x : State). 0 + look x) (reached-nothing p s) ∙ omega arith
+
 -- a run that is not refused reaches a state from which none of its program is
 taken-still : (p : List ℕ) (b : ℕ) (s : State) → number p s ≡ none → number p (reached p b s) ≡ none
 taken-still p b s h =
@@ -161,7 +185,7 @@ taken-still p b s h =
     (record { program = k .program; registers = rw (l .0) (k .registers); memory = rw (l .1) (k .memory); well-formed = w })
 
 pub joins : Composes
-unfolding runIssues runReached runAnswer
+unfolding runIssues runReached runAnswer runLooks
 joins p n m s = go (number p s) refl
   where
     go : (o : Option ℕ) → number p s ≡ o → Composed p n m s
@@ -171,8 +195,11 @@ joins p n m s = go (number p s) refl
           issues = rw (e, f) (issues-add p m n s);
           reached = rw (e, f) (reached-add p m n s);
           answer = rw (e, f) (ap (λ x. given (endingAt x)) (reached-add p m n s));
+          looks =
+              rw (e, f)
+              (omega (arith, looks-add p m n s, ap look (reached-add p m n s), looks-nothing p (reached p n s)));
         }
-    go (some k) e = record { issues = rw (e, e); reached = rw (e, e); answer = rw (e, e) }
+    go (some k) e = record { issues = rw (e, e); reached = rw (e, e); answer = rw (e, e); looks = rw (e, e) }
 
 -- A refusal, and no budget.
 
@@ -194,3 +221,24 @@ no-budget p s = go (number p s)
     go : (o : Option ℕ) → refusedOr o (λ n. s) (reached p 0 s) ≡ s
     go none = reached-nothing p s
     go (some n) = refl
+
+-- How far the chooser looks.
+
+pub looks-within : LooksWithin
+unfolding runLooks runIssues runReached
+looks-within p b s = go (number p s) refl
+  where
+    go : (o : Option ℕ) → number p s ≡ o → LooksBounded p b s
+    go none e =
+        let i = looks-bounds (issues p b s) in
+        let l = look-bounds (reached p b s) in
+        record { high = rw e (omega (arith, i .1, l .1)); low = λ h. rw e (omega (arith, i .0, l .0)) }
+    go (some n) e = record { high = rw e (omega arith); low = λ h. absurd (let z : _≡_ {A = ℕ} 0 1 = cc in omega arith) }
+
+pub no-budget-looks : NoBudgetLooks
+unfolding runLooks runIssues runReached
+no-budget-looks p s h = rw h (looks-nothing p s)
+
+pub refused-looks : RefusedLooks
+unfolding runLooks
+refused-looks p b n s h = rw h

@@ -1,5 +1,5 @@
 -- The issues of a run, written down one after the other (document 01, "Choosing and counting issues").
-use Prim.Native.Nat.{ℕ, zero, suc}
+use Prim.Native.Nat.{ℕ, zero, suc, _+_}
 use mathlib.Core.Bool.{cond}
 use mathlib.Core.List.{List, [], _∷_}
 use Rattle.execution.specs.Issue.{perform}
@@ -50,3 +50,18 @@ idleEnding m = cond (someWaits m) stuck stopped
 -- Where a thread is running in the state reached, they do: Claims has it as `SpendsBudget`.
 unfoldable pub endingAt : State → Ending
 endingAt s = ifChosen (choice (s .machine)) (λ t. spent) (idleEnding (s .machine))
+
+-- How far the chooser looks (02, T-13): "for an issue the distance from "last" round to the thread chosen, 1 to 8; for a search that
+-- finds none, 8". That a distance is 1 to 8, and no running thread nearer, machine's claims have as `Chooses`.
+abbrev pub entriesTo : Choice → ℕ
+entriesTo (Chosen thread distance) = distance
+entriesTo NoneRunning = 8
+
+-- the entries looked at to choose in a state
+unfoldable pub look : State → ℕ
+look s = entriesTo (choice (s .machine))
+
+-- and for issues that were written down, each in the state before it
+unfoldable pub looksFor : List Issue → ℕ
+looksFor [] = 0
+looksFor (i ∷ is) = look (i .before) + looksFor is

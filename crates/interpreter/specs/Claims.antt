@@ -1,5 +1,5 @@
 -- What is proved of the definitions, for other crates to cite.
-use Prim.Native.Nat.{ℕ, _+_, _%_, _^_, _<_, _≤_}
+use Prim.Native.Nat.{ℕ, _+_, _*_, _%_, _^_, _<_, _≤_}
 use mathlib.Core.Bool.{Bool, true, false}
 use mathlib.Core.List.{List, [], _∷_, _++_}
 use mathlib.Core.Logic.{_↔_}
@@ -13,9 +13,9 @@ use Rattle.machine.specs.State.{State, scalarIndex, laneMaskRegister}
 use Rattle.machine.specs.Scheduler.{runs, waits}
 use Rattle.machine.specs.WellFormed.{wellFormed}
 use Rattle.interpreter.specs.Answer.{Ending, stopped, stuck, spent}
-use Rattle.interpreter.specs.Choosing.{Issue}
+use Rattle.interpreter.specs.Choosing.{Issue, look}
 use Rattle.interpreter.specs.Demand.{Call, Session, written, made, Fair, enabledThreads}
-use Rattle.interpreter.specs.Run.{number, runIssues, runReached, runAnswer}
+use Rattle.interpreter.specs.Run.{number, runIssues, runReached, runAnswer, runLooks}
 use Rattle.interpreter.specs.Start.{start}
 use Rattle.interpreter.specs.Types.{Machine}
 
@@ -92,6 +92,8 @@ pub record Composed (p : List ℕ) (n m : ℕ) (s : State) : Type 0 where
   pub issues : runIssues p (n + m) s ≡ runIssues p n s ++ runIssues p m (runReached p n s)
   pub reached : runReached p (n + m) s ≡ runReached p m (runReached p n s)
   pub answer : runAnswer p (n + m) s ≡ runAnswer p m (runReached p n s)
+  -- save that both look at the state between them, as a run with no budget does there
+  pub looks : runLooks p (n + m) s + runLooks p 0 (runReached p n s) ≡ runLooks p n s + runLooks p m (runReached p n s)
 
 abbrev pub Composes : Type 0
 Composes = (p : List ℕ) (n m : ℕ) (s : State) → Composed p n m s
@@ -114,6 +116,25 @@ TakenWellFormed = (p : List ℕ) (s : State) → number p s ≡ none → wellFor
 -- with a budget of 0 it changes nothing
 abbrev pub NoBudget : Type 0
 NoBudget = (p : List ℕ) (s : State) → runReached p 0 s ≡ s
+
+-- How far the chooser looks (02, T-13).
+
+pub record LooksBounded (p : List ℕ) (b : ℕ) (s : State) : Type 0 where
+  -- "is at most 8 times the issues plus 8"
+  pub high : runLooks p b s ≤ 8 * length (runIssues p b s) + 8
+  -- and at least one for each issue, and one for the last look
+  pub low : number p s ≡ none → length (runIssues p b s) + 1 ≤ runLooks p b s
+
+abbrev pub LooksWithin : Type 0
+LooksWithin = (p : List ℕ) (b : ℕ) (s : State) → LooksBounded p b s
+
+-- with a budget of 0 it is the last look alone
+abbrev pub NoBudgetLooks : Type 0
+NoBudgetLooks = (p : List ℕ) (s : State) → number p s ≡ none → runLooks p 0 s ≡ look s
+
+-- "Refusals: none; a refused call reports 0."
+abbrev pub RefusedLooks : Type 0
+RefusedLooks = (p : List ℕ) (b n : ℕ) (s : State) → number p s ≡ some n → runLooks p b s ≡ 0
 
 -- Runs between which somebody else writes the register file or memory: the turns stay fair all the same.
 

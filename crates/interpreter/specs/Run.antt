@@ -1,12 +1,12 @@
 -- What a run hands back and leaves (document 01, "Numbers given back" and "Choosing and counting issues").
-use Prim.Native.Nat.{ℕ}
+use Prim.Native.Nat.{ℕ, _+_}
 use mathlib.Core.List.{List, []}
 use mathlib.Core.Option.{Option}
 use lib.ListN.{length}
 use Rattle.answer.specs.Answer.{Answer, given, refused}
 use Rattle.machine.specs.State.{State, state}
 use Rattle.interpreter.specs.Answer.{Ending, answered}
-use Rattle.interpreter.specs.Choosing.{Issue, issues, reached, endingAt}
+use Rattle.interpreter.specs.Choosing.{Issue, issues, reached, endingAt, look, looksFor}
 use Rattle.answer.specs.Refusal.{refusedOr}
 use Rattle.interpreter.specs.Refusal.{runNumber}
 use Rattle.interpreter.specs.Types.{Run}
@@ -29,20 +29,34 @@ runReached p b s = refusedOr (number p s) (λ n. s) (reached p b s)
 unfoldable pub runAnswer : List ℕ → ℕ → State → Answer Ending
 runAnswer p b s = refusedOr (number p s) refused (given (endingAt (reached p b s)))
 
--- an answer, a number of issues, and the machine handed back or left
+-- "The run reports how many entries it looked at" (02, T-13): for each issue written down, and in the state reached, where "for a search
+-- that finds none" it is 8, and "the final look before spent counts its distance too"; "a refused call reports 0"
+unfoldable pub runLooks : List ℕ → ℕ → State → ℕ
+runLooks p b s = refusedOr (number p s) (λ n. 0) (looksFor (runIssues p b s) + look (runReached p b s))
+
+-- an answer, a number of issues, how many entries were looked at, and the machine handed back or left
 pub record Outcome : Type 0 where
   pub answer : Answer Ending
   pub issues : ℕ
+  pub looks : ℕ
   pub left : State
 
 abbrev pub outcome : Run → List ℕ → List ℕ → Outcome
-outcome r registers memory = record { answer = answered (r .answer); issues = r .issues; left = state (r .machine) registers memory }
+outcome r registers memory =
+    record { answer = answered (r .answer); issues = r .issues; looks = r .looks; left = state (r .machine) registers memory }
 
 -- "The number a run reports is the number of issues it added, its answer is the one the rules for choosing give there, or the
 -- table's number, and the machine it hands back or leaves is the state reached."
 unfoldable pub run : List ℕ → ℕ → State → Outcome
-run p b s = record { answer = runAnswer p b s; issues = length (runIssues p b s); left = runReached p b s }
+run p b s =
+    record { answer = runAnswer p b s; issues = length (runIssues p b s); looks = runLooks p b s; left = runReached p b s }
 
 -- the same of a run that is not refused
 unfoldable pub acceptedRun : List ℕ → ℕ → State → Outcome
-acceptedRun p b s = record { answer = given (endingAt (reached p b s)); issues = length (issues p b s); left = reached p b s }
+acceptedRun p b s =
+    record {
+      answer = given (endingAt (reached p b s));
+      issues = length (issues p b s);
+      looks = looksFor (issues p b s) + look (reached p b s);
+      left = reached p b s;
+    }

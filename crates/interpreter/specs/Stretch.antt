@@ -6,13 +6,14 @@ use mathlib.Core.Path.{_≡_}
 use lib.ListN.{length}
 use Rattle.machine.specs.State.{State}
 use Rattle.interpreter.specs.Answer.{spent}
-use Rattle.interpreter.specs.Choosing.{issues, reached, idleEnding, endingAt}
+use Rattle.interpreter.specs.Choosing.{issues, reached, idleEnding, endingAt, look, looksFor}
 use Rattle.interpreter.specs.Types.{Stretch}
 
--- a run from `first` with the budget b has come to s, with so many issues made
-pub record Carried (p : List ℕ) (b : ℕ) (first : State) (made : ℕ) (s : State) : Type 0 where
+-- a run from `first` with the budget b has come to s, with so many issues made, and so many entries looked at for them
+pub record Carried (p : List ℕ) (b : ℕ) (first : State) (made looked : ℕ) (s : State) : Type 0 where
   pub state : reached p b first ≡ reached p (b - made) s
   pub count : length (issues p b first) ≡ made + length (issues p (b - made) s)
+  pub looks : looksFor (issues p b first) ≡ looked + looksFor (issues p (b - made) s)
 
 -- with so many left in the budget nothing more is issued from s, where a thread is running or not
 pub record Over (p : List ℕ) (left : ℕ) (s : State) (running : Bool) : Type 0 where
@@ -22,7 +23,10 @@ pub record Over (p : List ℕ) (left : ℕ) (s : State) (running : Bool) : Type 
 
 -- from `first` with the budget b, a stretch r of issues has come to s
 pub record Stretched (p : List ℕ) (b : ℕ) (first : State) (r : Stretch) (s : State) : Type 0 where
-  pub carried : Carried p b first (r .made) s
+  pub looked : ℕ
+  pub carried : Carried p b first (r .made) looked s
   pub within : r .made ≤ b
   pub some-made : r .changed ≡ true → 1 ≤ r .made
   pub over : r .changed ≡ false → Over p (b - r .made) s (r .running)
+  -- where nothing more is issued, there was the last look too
+  pub looks : r .looks ≡ looked + cond (r .changed) 0 (look s)

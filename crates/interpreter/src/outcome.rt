@@ -20,9 +20,11 @@ pub enum RunAnswer {
     Refused(u8),
 }
 
-// The answer, the number of issues made, and the record that they reach.
+// The answer, the number of issues made, how many entries were looked at to choose their threads and to find no other, and the record
+// that they reach. Eight looks an issue pass 32 bits.
 pub struct Run {
     pub answer: RunAnswer,
     pub issues: u32,
+    pub looks: u64,
     pub machine: Machine,
 }

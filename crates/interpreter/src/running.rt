@@ -53,22 +53,27 @@ fn answer_of(running: bool, waits: bool) -> RunAnswer
 }
 
 // What it hands back there.
-fn ended(machine: Machine, running: bool, made: u32) -> Run
-    ensures { λ r. ⌜ (answered (r .answer) ≡ given (cond running spent (idleEnding machine))) × (r .issues ≡ made) × (r .machine ≡ machine) ⌝ }
+fn ended(machine: Machine, running: bool, made: u32, looks: u64) -> Run
+    ensures { λ r. ⌜
+        (answered (r .answer) ≡ given (cond running spent (idleEnding machine))) × (r .issues ≡ made) × (r .looks ≡ looks) × (r .machine ≡ machine)
+        ⌝ }
 {
     let waits = machine.some_waits();
     Run {
         answer: answer_of(running, waits),
         issues: made,
+        looks,
         machine,
     }
 }
 
-// Issues in a row: the record that they reach, but for its counts of turns, how many were made, whether the last of them changed a
-// status, and, where it did not and nothing more is issued, whether a thread is running.
+// Issues in a row: the record that they reach, but for its counts of turns, how many were made, how many entries were looked at, whether
+// the last of them changed a status, and, where it did not and nothing more is issued, whether a thread is running: the look that tells
+// so counts too.
 pub struct Stretch {
     pub machine: Machine,
     pub made: u32,
+    pub looks: u64,
     pub changed: bool,
     pub running: bool,
 }
@@ -92,24 +97,29 @@ fn make_stretch(
         ⌝ }
 {
     let mut made: u32 = 0;
+    let mut looks: u64 = 0;
     loop {
         let turn = machine.choose();
         let choice = turn.choice;
         let next = turn.machine;
         match choice {
             Choice::NoneRunning => {
+                looks += 8;
                 return Stretch {
                     machine,
                     made,
+                    looks,
                     changed: false,
                     running: false,
                 };
             }
-            Choice::Chosen { thread, .. } => {
+            Choice::Chosen { thread, distance } => {
+                looks += distance as u64;
                 if made == budget {
                     return Stretch {
                         machine,
                         made,
+                        looks,
                         changed: false,
                         running: true,
                     };
@@ -126,6 +136,7 @@ fn make_stretch(
                     return Stretch {
                         machine: after,
                         made,
+                        looks,
                         changed,
                         running: true,
                     };
@@ -148,6 +159,7 @@ fn make_issues(
     ensures { λ r. ⌜ outcome r (now (registers .exit)) (now (memory .exit)) ≡ acceptedRun (now (program .entry)) budget (state machine (now (registers .entry)) (now (memory .entry))) ⌝ }
 {
     let mut made: u32 = 0;
+    let mut looks: u64 = 0;
     let mut turns = machine.turns();
     loop {
         let stretch = make_stretch(
@@ -161,8 +173,9 @@ fn make_issues(
         let changed = stretch.changed;
         machine = stretch.machine;
         made += stretch.made;
+        looks += stretch.looks;
         if !changed {
-            return ended(machine.with_turns(turns), stretch.running, made);
+            return ended(machine.with_turns(turns), stretch.running, made, looks);
         }
     }
 }
@@ -182,6 +195,7 @@ pub fn run(
         Verdict::Refused(number) => Run {
             answer: RunAnswer::Refused(number),
             issues: 0,
+            looks: 0,
             machine,
         },
         Verdict::Accepted => make_issues(program, registers, memory, machine, budget),

@@ -7,12 +7,12 @@ use native.Mathlib.Omega.{arith}
 use lib.Dec.{eqb, lit≤}
 use lib.ListN.{length}
 use Rattle.isa.specs.Text.{bytes}
-use Rattle.text.proofs.Lengths.{decimal-small}
+use Rattle.text.proofs.Lengths.{decimal-small, decimal-long-small}
 use Rattle.text.specs.Buffer.{wrote, writes}
 use Rattle.thread_lines.proofs.Lengths.{total, length-concat, threads-small}
 use Rattle.thread_lines.proofs.Parts.{puts-whole}
 use Rattle.thread_lines.specs.Text.{concat, putsAll}
-use Rattle.report.specs.Report.{counted, bodyParts}
+use Rattle.report.specs.Report.{counted, bodyParts, looksParts}
 use Rattle.report.specs.Types.{Machine}
 
 counted-small : (n : ℕ) → length (counted n) ≤ 8
@@ -33,3 +33,11 @@ pub body-whole : (l word : List ℕ) (issues : ℕ) (m : Machine) (registers : L
 body-whole l word issues m registers e h =
     let parts = bodyParts word issues m registers in
     puts-whole l parts (omega (arith, e, length-concat parts, body-small word issues m registers h))
+
+-- and so has the line of looks
+looks-small : (looks : ℕ) → total (looksParts looks) ≤ 27
+unfolding bytes
+looks-small looks = omega (arith, decimal-long-small looks)
+
+pub looks-whole : (l : List ℕ) (looks : ℕ) → length l ≡ 27 → putsAll (wrote 0 l) (looksParts looks) ≡ writes l 0 (concat (looksParts looks))
+looks-whole l looks e = puts-whole l (looksParts looks) (omega (arith, e, length-concat (looksParts looks), looks-small looks))

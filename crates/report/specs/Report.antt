@@ -4,7 +4,7 @@ use mathlib.Core.Bool.{cond}
 use mathlib.Core.List.{List, [], _∷_}
 use lib.Dec.{eqb}
 use Rattle.isa.specs.Text.{bytes}
-use Rattle.text.specs.Number.{decimal}
+use Rattle.text.specs.Number.{decimal, decimalLong}
 use Rattle.thread_lines.specs.Lines.{threadParts}
 use Rattle.thread_lines.specs.Text.{concat}
 use Rattle.report.specs.Types.{RunAnswer, Stopped, Stuck, Spent, RunRefused, Run, Machine}
@@ -26,3 +26,10 @@ reportParts (RunRefused number) issues m registers = []
 -- nothing is printed of a refused run
 unfoldable pub report : Run → List ℕ → List ℕ
 report run registers = concat (reportParts (run .answer) (run .issues) (run .machine) registers)
+
+-- "The run reports how many entries it looked at" (02, T-13): a line of its own, for who asks for it
+abbrev pub looksParts : ℕ → List (List ℕ)
+looksParts looks = bytes "looks " ∷ decimalLong looks ∷ bytes "\n" ∷ []
+
+unfoldable pub looksLine : ℕ → List ℕ
+looksLine looks = concat (looksParts looks)

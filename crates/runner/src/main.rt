@@ -26,10 +26,17 @@ ghost use Rattle.answer.specs.Refusal.{memoryBytes};
 // The stream of a machine to resume, which the command opens.
 const IMAGE_IN: i32 = 3;
 
-// Prints how a run ended.
-fn print(run: Run, registers: &[u32; REGISTER_WORDS]) {
+// Prints how a run ended, and answers whether that was written.
+fn print(run: Run, registers: &[u32; REGISTER_WORDS]) -> bool {
     let mut text = [0u8; report::LONGEST];
     let length = report::write_report(run, registers, &mut text);
+    files::write_stream(STDOUT_FILENO, b"write standard output", &text[..length])
+}
+
+// Prints how many entries it looked at.
+fn print_looks(looks: u64) {
+    let mut text = [0u8; report::LOOKS_LONGEST];
+    let length = report::write_looks(looks, &mut text);
     files::write_stream(STDOUT_FILENO, b"write standard output", &text[..length]);
 }
 
@@ -57,7 +64,10 @@ fn run(
             return;
         }
     }
-    print(run, registers);
+    let printed = print(run, registers);
+    if printed & settings.looks {
+        print_looks(run.looks);
+    }
 }
 
 // Starts a machine on a memory of zeros, and runs the program.

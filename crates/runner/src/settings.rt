@@ -1,4 +1,4 @@
-// The arguments, five decimal numbers that the command gives: MASK MEMORY BUDGET RESUME SAVE.
+// The arguments, six decimal numbers that the command gives: MASK MEMORY BUDGET RESUME SAVE LOOKS.
 use files::complain;
 use text::Argument;
 
@@ -9,6 +9,7 @@ pub struct Settings {
     pub budget: u32,
     pub resume: bool,
     pub save: bool,
+    pub looks: bool,
     pub given: bool,
 }
 
@@ -20,13 +21,14 @@ fn number_at(i: usize) -> Argument {
 }
 
 fn missing() -> Settings {
-    complain(b"the runner takes five numbers: mask, memory, budget, resume, save");
+    complain(b"the runner takes six numbers: mask, memory, budget, resume, save, looks");
     Settings {
         mask: 0,
         memory: 0,
         budget: 0,
         resume: false,
         save: false,
+        looks: false,
         given: false,
     }
 }
@@ -48,12 +50,16 @@ pub fn read_settings() -> Settings {
     let Argument::Number(save) = number_at(5) else {
         return missing();
     };
+    let Argument::Number(looks) = number_at(6) else {
+        return missing();
+    };
     Settings {
         mask,
         memory,
         budget,
         resume: resume != 0,
         save: save != 0,
+        looks: looks != 0,
         given: true,
     }
 }

@@ -7,7 +7,7 @@ use native.Mathlib.Omega.{arith}
 use borrow.Author.Tests.{lt-ltb}
 use lib.Dec.{ltb, lit≤}
 use lib.ListN.{length, length-append}
-use Rattle.text.specs.Number.{decimalIn, decimal}
+use Rattle.text.specs.Number.{decimalIn, decimal, decimalLong}
 
 decimal-in-small : (k n : ℕ) → length (decimalIn k n) ≤ k
 decimal-in-small zero n = lit≤ tt
@@ -20,6 +20,10 @@ decimal-in-small (suc k) n = go (decimal-in-small k (n / 10)) (ltb n 10)
 pub decimal-small : (n : ℕ) → length (decimal n) ≤ 10
 unfolding decimal
 decimal-small n = decimal-in-small 10 n
+
+pub decimal-long-small : (n : ℕ) → length (decimalLong n) ≤ 20
+unfolding decimalLong
+decimal-long-small n = decimal-in-small 20 n
 
 -- a number below a power of ten has at most so many digits
 decimal-in-short : (k n j : ℕ) → n < 10 ^ suc j → length (decimalIn k n) ≤ suc j

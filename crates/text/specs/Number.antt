@@ -25,3 +25,7 @@ decimalIn (suc k) n = cond (ltb n 10) ((48 + n) ∷ []) (decimalIn k (n / 10) ++
 -- "in decimal": a number of 32 bits has at most ten digits
 unfoldable pub decimal : ℕ → List ℕ
 decimal n = decimalIn 10 n
+
+-- and one of 64 bits at most twenty
+unfoldable pub decimalLong : ℕ → List ℕ
+decimalLong n = decimalIn 20 n

@@ -6,5 +6,6 @@ mod parsing;
 pub use buffer::put_text;
 pub use number::hex_of;
 pub use number::put_decimal;
+pub use number::put_long;
 pub use parsing::Argument;
 pub use parsing::number_of;

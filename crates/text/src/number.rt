@@ -2,7 +2,7 @@
 ghost use mathlib.Core.Path.{_≡_};
 ghost use Prim.Native.Nat.{_<_};
 ghost use Rattle.text.specs.Buffer.{wrote, puts};
-ghost use Rattle.text.specs.Number.{digit, hex, decimal};
+ghost use Rattle.text.specs.Number.{digit, hex, decimal, decimalLong};
 use crate::buffer::put_text;
 
 // The digit of a number below 16.
@@ -33,11 +33,18 @@ pub fn hex_of(n: u32) -> [u8; 8]
     ]
 }
 
-// Puts a number in decimal at a place, and answers the place behind it; nothing where it has no room there.
+// Puts a number of 64 bits in decimal at a place, and answers the place behind it; nothing where it has no room there.
+pub fn put_long(out: &mut [u8], at: usize, n: u64) -> usize
+    ensures { λ r. ⌜ wrote r (now (out .exit)) ≡ puts (wrote at (now (out .entry))) (decimalLong n) ⌝ }
+{
+    let mut digits = [0u8; 20];
+    let count = io::decimal(n, &mut digits);
+    put_text(out, at, &digits[..count])
+}
+
+// The same of a number of 32 bits.
 pub fn put_decimal(out: &mut [u8], at: usize, n: u32) -> usize
     ensures { λ r. ⌜ wrote r (now (out .exit)) ≡ puts (wrote at (now (out .entry))) (decimal n) ⌝ }
 {
-    let mut digits = [0u8; 20];
-    let count = io::decimal(n as u64, &mut digits);
-    put_text(out, at, &digits[..count])
+    put_long(out, at, n as u64)
 }

@@ -87,7 +87,7 @@ pub fn start(mask: u32, registers: &mut [u32], record: &mut Opening) -> u32 {
     unsafe { korvammel_start(mask, registers.as_mut_ptr(), registers.len(), record.as_mut_ptr()) }
 }
 
-pub fn run(program: &[u32], registers: &mut [u32], memory: &mut [u8], record: &mut Opening, budget: u32, result: &mut [u32; 2]) -> u32 {
+pub fn run(program: &[u32], registers: &mut [u32], memory: &mut [u8], record: &mut Opening, budget: u32, result: &mut [u32; 4]) -> u32 {
     unsafe {
         korvammel_run(
             program.as_ptr(),

@@ -26,6 +26,7 @@ pub type Stored = [Option<Moved>; 8];
 pub struct Tally {
     cases: u64,
     issues: u64,
+    looks: u64,
     numbers: [u64; NUMBERS],
     endings: [u64; 3],
     traps: [u64; 7],
@@ -45,9 +46,10 @@ impl Tally {
         program.extend_from_slice(words);
     }
 
-    /// A run that was made: its issues, how it ended, and the reasons of the threads that it trapped.
-    pub fn ran(&mut self, issues: u32, ending: Ending, before: &Record, after: &Record) {
+    /// A run that was made: its issues and looks, how it ended, and the reasons of the threads that it trapped.
+    pub fn ran(&mut self, issues: u32, looks: u64, ending: Ending, before: &Record, after: &Record) {
         self.issues += issues as u64;
+        self.looks += looks;
         self.endings[ending as usize] += 1;
         self.wrapped += before.turns.iter().zip(&after.turns).filter(|(old, new)| old > new).count() as u64;
         for (old, new) in before.threads.iter().zip(&after.threads) {
@@ -151,7 +153,7 @@ fn summary(tallies: &[&Tally], reach: Reach) -> String {
     };
     let digits: Vec<String> = (0..NUMBERS).map(|n| n.to_string()).collect();
     let endings = ["stopped", "stuck", "spent"].map(String::from);
-    let issues = named("", &["issues".to_string()], &|tally, _| tally.issues);
+    let issues = named("", &["issues", "looks"].map(String::from), &|tally, i| [tally.issues, tally.looks][i]);
     let numbers = named("numbers ", &digits, &|tally, i| tally.numbers[i]);
     let ended = named("", &endings, &|tally, i| tally.endings[i]);
     let traps = named("traps ", &digits[..7], &|tally, i| tally.traps[i]);

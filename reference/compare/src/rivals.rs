@@ -22,7 +22,7 @@ struct RivalRecord {
 #[repr(C)]
 struct Rival {
     name: *const c_char,
-    run: extern "C" fn(*const u32, usize, *mut u32, *mut u8, usize, *mut RivalRecord, u32, *mut u32) -> u32,
+    run: extern "C" fn(*const u32, usize, *mut u32, *mut u8, usize, *mut RivalRecord, u32, *mut u32, *mut u64) -> u32,
 }
 
 extern "C" {
@@ -50,22 +50,23 @@ fn run_all(machine: &mut Machine, program: &[u32], budget: u32, tally: &mut Tall
     tally.show(program);
     let (before, mut stored) = (machine.clone(), Stored::default());
     let seen = |t, moved| tally.issued(t, moved, &mut stored);
-    let (answer, made) = run_seen(program, &mut machine.room, &mut machine.memory, &mut machine.record, budget, seen);
+    let (answer, made, looks) = run_seen(program, &mut machine.room, &mut machine.memory, &mut machine.record, budget, seen);
     let ending = answer.expect("a run that is not refused");
     for rival in all_rivals() {
         let name = unsafe { CStr::from_ptr(rival.name) }.to_string_lossy();
         let mut m = before.clone();
-        let (mut record, mut issues) = (rival_record(&m.record), 9);
+        let (mut record, mut issues, mut looked) = (rival_record(&m.record), 9, 9);
         let (room, memory) = (m.room.as_mut_ptr(), m.memory.as_mut_ptr());
-        let number = (rival.run)(program.as_ptr(), program.len(), room, memory, m.memory.len(), &mut record, budget, &mut issues);
+        let number =
+            (rival.run)(program.as_ptr(), program.len(), room, memory, m.memory.len(), &mut record, budget, &mut issues, &mut looked);
         // stopped, stuck and spent are 1, 2 and 3 there
-        assert_eq!((ending as u32 + 1, made), (number, issues), "{name}, budget {budget}");
+        assert_eq!((ending as u32 + 1, made, looks), (number, issues, looked), "{name}, budget {budget}");
         assert_eq!(rival_record(&machine.record), record, "{name}");
         same(&format!("{name}: register word"), &machine.room, &m.room);
         same(&format!("{name}: memory byte"), &machine.memory, &m.memory);
         tally.met(0);
     }
-    tally.ran(made, ending, &before.record, &machine.record);
+    tally.ran(made, looks, ending, &before.record, &machine.record);
 }
 
 fn lists(seed: u64, tally: &mut Tally) {

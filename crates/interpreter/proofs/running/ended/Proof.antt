@@ -12,4 +12,4 @@ ended-spec =
     (tie.spec
     (λ c κs. search needs)
     (λ c κs. search needs)
-    (λ c. (rw (← c .before .some-waits .ensures) (c .answer-of .ensures), refl, refl)))
+    (λ c. (rw (← c .before .some-waits .ensures) (c .answer-of .ensures), refl, refl, refl)))

@@ -1,8 +1,7 @@
--- `put_decimal` meets its contract: the digits that it takes are the number's.
+-- `put_decimal` meets its contract: a number of 32 bits has no more than ten digits.
 use borrow.Author.Needs.{needs}
-use mathlib.Core.Path.{_∙_}
 use native.Mathlib.Omega.{arith}
-use Rattle.text.proofs.Digits.{decimal-is}
+use Rattle.text.proofs.Digits.{long-is}
 use Rattle.text.proofs.number.put_decimal.Statement.{statement}
 use Rattle.text.proofs.number.put_decimal.Tie as tie
 
@@ -12,7 +11,4 @@ put-decimal-spec =
     (tie.spec
     (λ c κs. search needs)
     (λ c. search needs)
-    (λ c. search needs)
-    (λ c κs. search needs)
-    (λ c. search needs)
-    (λ c. let d = c .before .before .before .before .before .decimal in rw (d .ensures .1 .1 ∙ decimal-is (c .before .before .before .before .before .before .before .before .args .n) (d .result) (omega arith) (d .ensures .1 .0)) at (c .before .before .put-text .ensures)))
+    (λ c. rw (long-is (c .before .before .before .before .before .args .n) (omega arith)) at (c .before .before .put-long .ensures)))
