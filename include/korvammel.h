@@ -4,7 +4,7 @@
  * this table. Where it answers a number of the table, every lent array holds what it held before, except where the function says
  * otherwise. (korvammel_name answers a length.)
  *
- * The library is for x86-64 Linux, in C's own calling convention there. A call needs at most 3,072 bytes of stack (on words; the
+ * The library is for x86-64 Linux, in C's own calling convention there. A call needs at most 3,328 bytes of stack (on words; the
  * others under 1,024). It uses the red zone, the 128 bytes below the stack pointer, which are among these: an interrupt that comes in
  * on the same stack has to leave them alone. Of the C library it calls memset.
  *
