@@ -5,7 +5,7 @@
  * otherwise. (korvammel_name answers a length.)
  *
  * The library is for x86-64 Linux, in C's own calling convention there. A call needs at most 3,328 bytes of stack (on words; the
- * others under 1,024). It uses the red zone, the 128 bytes below the stack pointer, which are among these: an interrupt that comes in
+ * others under 1,536). It uses the red zone, the 128 bytes below the stack pointer, which are among these: an interrupt that comes in
  * on the same stack has to leave them alone. Of the C library it calls memset.
  *
  * Float words (R opcodes 33 to 42) are worked out by the processor's float unit: korvammel_run has to be called with the default
