@@ -196,6 +196,10 @@ fn records(kind: usize, random: &mut Random) -> Vec<Line> {
                 if !random.one_in(4) {
                     let address = random.of(&[0, 4, behind(&lines) as u16 & 0xFFF0, 0xFFF0]);
                     lines.push(Line::new(0, address, &bytes(random, 4), nl));
+                    // a second record under the same upper half
+                    if address < 0xFFF0 && random.one_in(2) {
+                        lines.push(Line::new(0, address + 4, &bytes(random, 4), nl));
+                    }
                 }
             }
         }
