@@ -520,7 +520,10 @@ mod tests {
         assert_eq!(record.turns, [0; 8]);
         record.turns[1] = 0xFFFF_FFFF;
         record.turns[2] = 9;
-        assert_eq!(run(&[0x62080040, 0x79042000, 0], &mut room, &mut memory, &mut record, 5), (Ok(Ending::Spent), 5, (1 + 1) + (7 + 1) + 7 + 1));
+        assert_eq!(
+            run(&[0x62080040, 0x79042000, 0], &mut room, &mut memory, &mut record, 5),
+            (Ok(Ending::Spent), 5, (1 + 1) + (7 + 1) + 7 + 1)
+        );
         assert_eq!(run(&[0x62080040, 0x79042000, 0], &mut room, &mut memory, &mut record, 5), (Ok(Ending::Stopped), 1, 1 + 8));
         assert_eq!((room[1], room[64 + 1]), (1, 0));
         assert_eq!(record.turns, [3, 2, 9, 0, 0, 0, 0, 0]);
