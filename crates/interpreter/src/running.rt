@@ -175,7 +175,7 @@ fn make_issues(
     loop {
         let stretch = make_stretch(program, registers, memory, machine, &turns, left);
         let changed = stretch.changed;
-        machine.count_rounds(&mut turns, stretch.passed);
+        turns = machine.count_rounds(turns, stretch.passed);
         machine = stretch.machine;
         left = stretch.left;
         looks += stretch.looks;

@@ -1,5 +1,5 @@
 // Meeting at a barrier.
-ghost use Prim.Native.Nat.{_<_};
+ghost use Prim.Native.Nat.{_%_, _<_};
 ghost use mathlib.Core.Path.{_≡_};
 ghost use Rattle.machine.specs.Barrier.{released, release, OthersWait, arriveOrTrap, reachBarrier};
 use crate::record::Machine;
@@ -83,17 +83,18 @@ impl Machine {
         }
     }
 
-    // A thread meets others at a barrier, or is trapped. The register values are the id, and the count less one.
+    // A thread meets others at a barrier, or is trapped. The register values are the id, and the count less one. A number past the last
+    // thread's goes round.
     pub fn reach_barrier(self, thread: usize, id: u32, second: u32) -> BarrierResult
-        requires { ⌜ thread < 8 ⌝ }
-        ensures { λ r. ⌜ r ≡ reachBarrier self thread id second ⌝ }
+        ensures { λ r. ⌜ r ≡ reachBarrier self (thread % 8) id second ⌝ }
     {
+        let t = thread % 8;
         if ((GREATEST_BARRIER as u32) < id) | (7 < second) {
             return BarrierResult {
                 trapped: true,
-                machine: self.trap(thread, 5),
+                machine: self.trap(t, 5),
             };
         }
-        self.arrive(thread, id as u8, (second + 1) as u8)
+        self.arrive(t, id as u8, (second + 1) as u8)
     }
 }

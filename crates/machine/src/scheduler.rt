@@ -1,7 +1,6 @@
 // The scheduler: which thread is issued next.
-ghost use Prim.Native.Nat.{_^_, _<_};
+ghost use Prim.Native.Nat.{_<_};
 ghost use mathlib.Core.Path.{_≡_};
-ghost use lib.ListN.{length};
 ghost use Rattle.machine.specs.Machine.{threadNumbers};
 ghost use Rattle.machine.specs.Rounds.{between, afterRounds};
 ghost use Rattle.machine.specs.Scheduler.{runs, withLast, choose, someWaits};
@@ -92,20 +91,20 @@ impl Machine {
         (thread as u32 + 7 - (self.last % 8) as u32) % 8
     }
 
-    // Counts the turns of issues in a row that set no status, of which the last is that of the thread so many entries after "last": each
+    // Counts of turns after issues in a row that set no status, of which the last is that of the thread so many entries after "last": each
     // round of eight entries has one issue of every running thread.
-    pub fn count_rounds(self, turns: &mut [u32; 8], passed: u64)
-        requires { ⌜ (passed < 2 ^ 40) × (length (now turns) ≡ 8) ⌝ }
-        ensures { λ _. ⌜ now (turns .exit) ≡ afterRounds self passed (now (turns .entry)) ⌝ }
+    pub fn count_rounds(self, mut turns: [u32; 8], passed: u64) -> [u32; 8]
+        ensures { λ r. ⌜ r ≡ afterRounds self passed turns ⌝ }
     {
         for thread in 0..8usize {
             let status = self.status_at(thread);
             let running = is_running(status);
             if running {
-                let rounds = (passed + 7 - self.between(thread) as u64) / 8;
+                let rounds = passed / 8 + (passed % 8 + 7 - self.between(thread) as u64) / 8;
                 let has = many_more(turns[thread], rounds);
                 turns[thread] = has;
             }
         }
+        turns
     }
 }

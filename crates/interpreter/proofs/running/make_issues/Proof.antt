@@ -35,19 +35,11 @@ make-stretch-requires c κs =
     let start = c .before .before .before .before .before .before .before .before in
     (start .pre .0, l .inv .1 ∙ start .pre .1, l .inv .3)
 
--- the entries passed are few enough
-count-rounds-requires : tie.Need-count-rounds-requires Inv-loop μ-loop
-count-rounds-requires c κs =
-    let m = c .before .before .before .before .before .make-stretch in
-    let l = c .before .before .before .before .before .before .before .before .before .loop in
-    let start = c .before .before .before .before .before .before .before .before .before .before .before .before .before .before in
-    (omega (arith, start .fits .budget, l .inv .0, carried-within _ _ _ _ _ _ (m .ensures .carried)), l .inv .3)
-
 add-looks : tie.Need-add-looks Inv-loop μ-loop
 add-looks c =
-    let m = c .before .before .before .before .before .before .before .before .make-stretch in
-    let l = c .before .before .before .before .before .before .before .before .before .before .before .before .loop in
-    let start = c .before .before .before .before .before .before .before .before .before .before .before .before .before .before .before .before .before in
+    let m = c .before .before .before .before .before .before .before .make-stretch in
+    let l = c .before .before .before .before .before .before .before .before .before .before .before .loop in
+    let start = c .before .before .before .before .before .before .before .before .before .before .before .before .before .before .before .before in
     omega (arith, start .fits .budget, l .inv .0, carried-within _ _ _ _ _ _ (l .inv .4), stretched-within _ _ _ (m .result) _ (m .ensures))
 
 -- nothing more is issued
@@ -55,8 +47,8 @@ returns : tie.Need-returns Inv-loop μ-loop
 returns c =
     let put = c .before .with-turns .ensures in
     let rounds = c .before .before .before .before .before .count-rounds .ensures in
-    let m = c .before .before .before .before .before .before .before .before .before .before .before .make-stretch in
-    let l = c .before .before .before .before .before .before .before .before .before .before .before .before .before .before .before .loop in
+    let m = c .before .before .before .before .before .before .before .before .before .before .make-stretch in
+    let l = c .before .before .before .before .before .before .before .before .before .before .before .before .before .before .loop in
     let stays = not-true (m .result .changed) (c .before .before .if1 .taken) in
     let e = c .ended .ensures in
     let further = carried-further _ _ _ (l .left) (l .looks) (recounted (state (l .machine) (l .registers) (l .memory)) (l .turns)) (l .inv .4) (l .inv .0)
@@ -68,21 +60,21 @@ returns c =
 
 -- both lent buffers keep their lengths
 same-length : tie.Need-same-length Inv-loop μ-loop
-same-length c = c .before .before .before .before .before .before .before .before .before .before .before .make-stretch .kept .1 .0 ∙ c .before .before .before .before .before .before .before .before .before .before .before .before .before .before .before .loop .inv .1
+same-length c = c .before .before .before .before .before .before .before .before .before .before .make-stretch .kept .1 .0 ∙ c .before .before .before .before .before .before .before .before .before .before .before .before .before .before .loop .inv .1
 
 same-length-2 : tie.Need-same-length-2 Inv-loop μ-loop
-same-length-2 c = c .before .before .before .before .before .before .before .before .before .before .before .make-stretch .kept .1 .1 .0 ∙ c .before .before .before .before .before .before .before .before .before .before .before .before .before .before .before .loop .inv .2
+same-length-2 c = c .before .before .before .before .before .before .before .before .before .before .make-stretch .kept .1 .1 .0 ∙ c .before .before .before .before .before .before .before .before .before .before .before .before .before .before .loop .inv .2
 
 loop-less : tie.Need-loop-less Inv-loop μ-loop
 loop-less c =
-    let m = c .before .before .before .before .before .before .before .before .before .make-stretch in
+    let m = c .before .before .before .before .before .before .before .before .make-stretch in
     m .ensures .some-made (not-false (m .result .changed) (c .if1 .left))
 
 loop-again : tie.Need-loop-again Inv-loop μ-loop
 loop-again c =
     let rounds = c .before .before .before .count-rounds .ensures in
-    let m = c .before .before .before .before .before .before .before .before .before .make-stretch in
-    let l = c .before .before .before .before .before .before .before .before .before .before .before .before .before .loop in
+    let m = c .before .before .before .before .before .before .before .before .make-stretch in
+    let l = c .before .before .before .before .before .before .before .before .before .before .before .before .loop in
     let changed = not-false (m .result .changed) (c .if1 .left) in
     let further = carried-further _ _ _ (l .left) (l .looks) (recounted (state (l .machine) (l .registers) (l .memory)) (l .turns)) (l .inv .4) (l .inv .0)
     (m .result .left) (m .result .passed) _ (m .ensures .carried) (m .ensures .within) in (
@@ -96,5 +88,5 @@ loop-again c =
 pub make-issues-spec : {M : Type 1} → statement M
 make-issues-spec =
     tie.close
-    (tie.spec Inv-loop μ-loop (λ c κs. search needs) loop-holds make-stretch-requires count-rounds-requires add-looks (λ c κs. search needs)
-    (λ c. omega (arith, c .before .before .before .before .before .before .before .before .before .before .before .before .before .before .loop .inv .0, c .before .before .before .before .before .before .before .before .before .before .make-stretch .ensures .within)) (λ c κs. search needs) same-length same-length-2 returns loop-less loop-again)
+    (tie.spec Inv-loop μ-loop (λ c κs. search needs) loop-holds make-stretch-requires (λ c κs. search needs) add-looks (λ c κs. search needs)
+    (λ c. omega (arith, c .before .before .before .before .before .before .before .before .before .before .before .before .before .loop .inv .0, c .before .before .before .before .before .before .before .before .before .make-stretch .ensures .within)) (λ c κs. search needs) same-length same-length-2 returns loop-less loop-again)

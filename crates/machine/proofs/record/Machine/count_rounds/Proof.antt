@@ -1,5 +1,5 @@
 -- `count_rounds` meets its contract: so far the counts of the threads passed are right, and the others as they were.
-use Prim.Native.Nat.{ℕ, suc, _+_, _-_, _/_, _<_, _≤_}
+use Prim.Native.Nat.{ℕ, suc, _+_, _-_, _/_, _%_, _<_, _≤_}
 use mathlib.Core.Bool.{true, false, cond}
 use mathlib.Core.Logic.{⊎-elim}
 use mathlib.Core.List.{List, [], _∷_}
@@ -26,6 +26,10 @@ unfolding changed withIssues
 all-with f [] = refl
 all-with f (n ∷ turns) = ap {B = List ℕ} (λ r. manyMore (f 0) n ∷ r) (all-with (λ t. f (suc t)) turns)
 
+-- no sum of the code passes the word's end: the rounds before the last, and whether the last comes so far
+rounds-in-two : (passed b : ℕ) → b < 8 → passed / 8 + (passed % 8 + 7 - b) / 8 ≡ (passed + 7 - b) / 8
+rounds-in-two passed b small = omega arith
+
 module _ (m : Machine) (passed : ℕ) (first : List ℕ) (t : ℕ) (turns : List ℕ) (l : t < length first)
     (e : turns ≡ changed (with m passed) first t) where
   -- one thread more: it runs and is counted, or has none
@@ -49,32 +53,32 @@ module _ (m : Machine) (passed : ℕ) (first : List ℕ) (t : ℕ) (turns : List
       ∙ changed-suc (with m passed) first t 0 l ∙ ap (changed (with m passed) first) (sym (add-one t))
 
 abbrev Inv-loop : tie.InvT-loop
-Inv-loop self turns₀ passed thread₀ turns thread = (thread ≤ 8) × (length turns ≡ 8) × (turns ≡ changed (with self passed) turns₀ thread)
+Inv-loop self passed turns₀ thread₀ turns thread = (thread ≤ 8) × (length turns ≡ 8) × (turns ≡ changed (with self passed) turns₀ thread)
 
 abbrev μ-loop : tie.MeasureT-loop
-μ-loop self turns₀ passed thread₀ turns thread = 8 - thread
+μ-loop self passed turns₀ thread₀ turns thread = 8 - thread
 
 loop-holds : tie.Need-loop-holds Inv-loop μ-loop
 unfolding changed
-loop-holds c = (omega arith, c .pre .1, refl)
+loop-holds c = (omega arith, c .good .1 .0 .1 .0 .1, refl)
 
 loop-again : tie.Need-loop-again Inv-loop μ-loop
 loop-again c =
     let l = c .before .before .before .before .loop in
     let a = c .before .before .before .before .before .args in
-    let small : l .thread < length (a .turns .now) = omega (arith, c .before .before .before .before .before .pre .1) in
+    let small : l .thread < length (a .t2) = omega (arith, c .before .before .before .before .before .good .1 .0 .1 .0 .1) in
     let e : runs (a .self) (l .thread) ≡ c .before .is-running .result = rw (← c .before .before .status-at .ensures, ← c .before .is-running .ensures) in
     ⊎-elim
     (λ x. (
       omega arith,
-      ap length (x .4) ∙ length-set (l .turns) (l .thread) _ ∙ l .inv .1,
-      x .4 ∙ ap (set (l .turns) (l .thread)) (rw (x .1 .ensures) at (x .3 .ensures))
-          ∙ counts (a .self) (a .passed) (a .turns .now) (l .thread) (l .turns) small (l .inv .2) (e ∙ x .0 .taken),
+      ap length (x .3) ∙ length-set (l .turns) (l .thread) _ ∙ l .inv .1,
+      x .3 ∙ ap (set (l .turns) (l .thread)) (rw (x .1 .ensures, rounds-in-two (a .passed) (between (a .self) (l .thread)) (omega arith)) at (x .2 .ensures))
+          ∙ counts (a .self) (a .passed) (a .t2) (l .thread) (l .turns) small (l .inv .2) (e ∙ x .0 .taken),
     ))
     (λ x. (
       omega arith,
       ap length (x .1) ∙ l .inv .1,
-      x .1 ∙ stays (a .self) (a .passed) (a .turns .now) (l .thread) (l .turns) small (l .inv .2) (e ∙ x .0 .left),
+      x .1 ∙ stays (a .self) (a .passed) (a .t2) (l .thread) (l .turns) small (l .inv .2) (e ∙ x .0 .left),
     ))
     (c .if1 .came)
 
@@ -82,8 +86,8 @@ returns : tie.Need-returns Inv-loop μ-loop
 returns c =
     let l = c .before .loop in
     let a = c .before .before .args in
-    let e : l .thread ≡ length (a .turns .now) = omega (arith, c .before .before .pre .1) in
-    l .inv .2 ∙ ap (changed (with (a .self) (a .passed)) (a .turns .now)) e ∙ all-with (issuesWithin (a .self) (a .passed)) (a .turns .now)
+    let e : l .thread ≡ length (a .t2) = omega (arith, c .before .before .good .1 .0 .1 .0 .1) in
+    l .inv .2 ∙ ap (changed (with (a .self) (a .passed)) (a .t2)) e ∙ all-with (issuesWithin (a .self) (a .passed)) (a .t2)
 
 pub count-rounds-spec : {M : Type 1} → statement M
 count-rounds-spec =
@@ -97,6 +101,7 @@ count-rounds-spec =
     (λ c. omega arith)
     (λ c κs. search needs)
     (λ c. search needs)
+    (λ c. omega arith)
     (λ c. omega arith)
     (λ c. omega arith)
     (λ c. omega arith)
