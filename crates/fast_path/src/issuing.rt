@@ -7,6 +7,7 @@ ghost use Rattle.execution.specs.Issue.{fits, issue, issueSetsStatus};
 ghost use Rattle.execution.specs.Jump.{inProgram};
 ghost use Rattle.execution.specs.Registers.{InRegisters};
 ghost use Rattle.isa.specs.Table.{rowM};
+ghost use Rattle.machine.specs.Machine.{manyMore};
 ghost use Rattle.machine.specs.State.{state};
 ghost use Rattle.fast_path.specs.Action.{HasOpcode, GoesBy, TriedStore, TriedWord, TriedIssue};
 ghost use Rattle.fast_path.specs.Types.{Jump, Store};
@@ -145,7 +146,8 @@ fn turns_of(turns: &[u32; 8], thread: usize) -> u32
 }
 
 // One issue, for any lengths and any thread number. As in `execution::issue`, the thread is "last" already and its turn is counted
-// elsewhere; how many it has had is looked up where the slow path is taken, and not for every word.
+// elsewhere. How many it has had, those that are counted and so many more, is worked out where the slow path is taken, and not for every
+// word.
 pub fn issue(
     program: &[u32],
     registers: &mut [u32],
@@ -153,14 +155,15 @@ pub fn issue(
     machine: Machine,
     thread: usize,
     turns: &[u32; 8],
+    more: u64,
 ) -> Issued
     ensures { λ r. ⌜
         (state (r .machine) (now (registers .exit)) (now (memory .exit))
         ≡ issue (now (program .entry)) (state machine (now (registers .entry)) (now (memory .entry))) thread
-        (getD (now (turns .entry)) thread 0))
+        (manyMore more (getD (now (turns .entry)) thread 0)))
         × (r .changed
         ≡ issueSetsStatus (now (program .entry)) (state machine (now (registers .entry)) (now (memory .entry))) thread
-        (getD (now (turns .entry)) thread 0))
+        (manyMore more (getD (now (turns .entry)) thread 0)))
         ⌝ }
 {
     if try_word(program, registers, memory, thread) {
@@ -169,6 +172,6 @@ pub fn issue(
             changed: false,
         };
     }
-    let had = turns_of(turns, thread);
+    let had = machine::many_more(turns_of(turns, thread), more);
     execution::issue(program, registers, memory, machine, thread, had)
 }

@@ -1,16 +1,17 @@
 -- Laws of a run's issues, one at a time.
-use Prim.Native.Nat.{ℕ, zero, suc, _+_, _-_, _<_, _≤_}
+use Prim.Native.Nat.{ℕ, zero, suc, _+_, _-_, _/_, _%_, _<_, _≤_}
 use mathlib.Core.Bool.{Bool, true, false, cond}
 use mathlib.Core.List.{List, [], _∷_}
-use mathlib.Core.Path.{_≡_, refl, sym, ap, _∙_}
+use mathlib.Core.Path.{_≡_, refl, sym, ap, subst, _∙_}
 use native.Mathlib.Omega.{arith}
 use lib.ListN.{length, getD, set}
 use Rattle.answer.specs.Answer.{given}
 use Rattle.execution.proofs.Claims.{performs, untouched, recounts, issues as execution-issues}
 use Rattle.execution.specs.Issue.{perform, issue, issueSetsStatus}
-use Rattle.machine.specs.Machine.{turnsAt, oneMore}
+use Rattle.machine.specs.Machine.{turnsAt, oneMore, manyMore}
+use Rattle.machine.specs.Rounds.{afterRounds}
 use Rattle.machine.specs.State.{State, state, countedIn, recounted}
-use Rattle.machine.proofs.Claims.{chooses, issues as machine-issues, counts-kept, counts-unseen, counting}
+use Rattle.machine.proofs.Claims.{chooses, issues as machine-issues, counts-kept, counts-unseen, counting, rounds-counted}
 use Rattle.machine.proofs.Kept.{running-entry}
 use Rattle.machine.specs.Claims.{KeepsRecord}
 use Rattle.machine.specs.Scheduler.{choice, withLast}
@@ -140,7 +141,7 @@ module _ (p : List ℕ) (b : ℕ) (first : State) (made looked : ℕ) (s : State
       record { state = k .state ∙ f; count = omega (arith, k .count, g); looks = omega (arith, k .looks, i) }
 
   -- and more of them, from there with what is left of the budget
-  pub carried-on : (more further : ℕ) (t : State) → Carried p (b - made) s more further t → Carried p b first (made + more) (looked + further) t
+  carried-on : (more further : ℕ) (t : State) → Carried p (b - made) s more further t → Carried p b first (made + more) (looked + further) t
   carried-on more further t j =
       let e : b - made - more ≡ b - (made + more) = omega arith in
       record {
@@ -148,6 +149,15 @@ module _ (p : List ℕ) (b : ℕ) (first : State) (made looked : ℕ) (s : State
         count = rw (← e) (omega (arith, k .count, j .count));
         looks = rw (← e) (omega (arith, k .looks, j .looks));
       }
+
+-- the same by what is left of the budget
+pub carried-further : (p : List ℕ) (b : ℕ) (first : State) (left looked : ℕ) (s : State) → Carried p b first (b - left) looked s → left ≤ b
+    → (rest further : ℕ) (t : State) → Carried p left s (left - rest) further t → rest ≤ left → Carried p b first (b - rest) (looked + further) t
+carried-further p b first left looked s k l rest further t j m =
+    let e : left ≡ b - (b - left) = omega arith in
+    let f : b - left + (left - rest) ≡ b - rest = omega arith in
+    subst (λ n. Carried p b first n (looked + further) t) f
+    (carried-on p b first (b - left) looked s k (left - rest) further t (subst (λ n. Carried p n s (left - rest) further t) e j))
 
 -- the same of the call that performs it, on the record m with which the thread chosen is issued, with the counts beside it
 pub carried-issue : (p : List ℕ) (b : ℕ) (first : State) (made looked : ℕ) (s : State) (turns : List ℕ)
@@ -159,27 +169,57 @@ carried-issue p b first made looked s turns k t d m after words regs size h e l 
     rw (ap (λ (n : State). recounted n (raised turns t)) i ∙ issue-performed p s turns t d m words regs size h e)
     (carried-step p b first made looked (recounted s turns) k t d (chosen-beside s turns h) l)
 
+-- where "last" has passed so many entries since the record m, and the counts are those of m and of the rounds since
+part : (a b : ℕ) → (a % 8 + b) % 8 ≡ (a + b) % 8
+part a b = omega arith
+
+again : (n : ℕ) → n % 8 % 8 ≡ n % 8
+again n = omega arith
+
+round : (first passed last t d : ℕ) → last % 8 ≡ (first + passed) % 8 → t ≡ (last + d) % 8 → t % 8 ≡ (first + (passed + d)) % 8
+round first passed last t d e place =
+    let sum : first + passed + d ≡ first + (passed + d) = omega arith in
+    ap (λ n. n % 8) place ∙ again (last + d) ∙ sym (part last d) ∙ ap (λ n. (n + d) % 8) e ∙ part (first + passed) d ∙ ap (λ n. n % 8) sum
+
+module _ (p : List ℕ) (b : ℕ) (first : State) (m : Machine) (turns : List ℕ) (left passed last : ℕ) (registers memory : List ℕ)
+    (words : length p ≤ 16384) (regs : length registers ≡ 8704) (size : length turns ≡ 8)
+    (there : last % 8 ≡ (m .last + passed) % 8) (t d : ℕ) (h : choice (withLast m last) ≡ Chosen t d) where
+  pub passed-on : t % 8 ≡ (m .last + (passed + d)) % 8
+  passed-on = round (m .last) passed last t d there (chooses (withLast m last) t d .0 h .place)
+
+  pub carried-round : Carried p b first (b - left) passed (recounted (state (withLast m last) registers memory) (afterRounds m passed turns))
+      → (next : Machine) → next ≡ withLast m t → left ≤ b → 0 < left
+      → (after : State) → after ≡ issue p (state next registers memory) t (manyMore ((passed + d - 1) / 8) (getD turns t 0))
+      → Carried p b first (b - (left - 1)) (passed + d) (recounted after (afterRounds m (passed + d) turns))
+  carried-round k next e within some after i =
+      let counts = afterRounds m passed turns in
+      let had = rounds-counted .had m turns passed last t d size there h in
+      let made : b - left + 1 ≡ b - (left - 1) = omega arith in
+      let one = rounds-counted .one-more m turns passed last t d size there h in
+      subst (λ n. Carried p b first n (passed + d) (recounted after (afterRounds m (passed + d) turns))) made
+      (rw one
+      (carried-issue p b first (b - left) passed (state (withLast m last) registers memory) counts k t d next after words regs
+      (rounds-counted .size m passed turns ∙ size) h e (omega arith) (i ∙ ap (issue p (state next registers memory) t) (sym had))))
+
 -- the looks of a stretch, after which the run goes on or is over
 module _ (p : List ℕ) (b : ℕ) (first : State) (r : Stretch) (s : State) (k : Stretched p b first r s) where
-  pub goes-on : r .changed ≡ true → Carried p b first (r .made) (r .looks) s
-  goes-on h =
-      let e : r .looks ≡ k .looked = k .looks ∙ ap (λ x. k .looked + cond x 0 (look s)) h ∙ omega arith in
-      rw e (k .carried)
+  pub goes-on : r .changed ≡ true → r .looks ≡ r .passed
+  goes-on h = k .looks ∙ ap (λ x. r .passed + cond x 0 (look s)) h ∙ omega arith
 
-  pub looks-over : r .changed ≡ false → r .looks ≡ k .looked + look s
-  looks-over h = k .looks ∙ ap (λ x. k .looked + cond x 0 (look s)) h
+  pub looks-over : r .changed ≡ false → r .looks ≡ r .passed + look s
+  looks-over h = k .looks ∙ ap (λ x. r .passed + cond x 0 (look s)) h
 
--- what the run answers, where it ends after these
-pub ends : (p : List ℕ) (b : ℕ) (first : State) (made looked : ℕ) (s : State) → Carried p b first made looked s
-    → (more further : ℕ) (t : State) → Carried p (b - made) s more further t
-    → (running : Bool) → Over p (b - made - more) t running → (looks : ℕ) → looks ≡ further + look t
-    → record { answer = given (cond running spent (idleEnding (t .machine))); issues = made + more; looks = looked + looks; left = t }
-    ≡ acceptedRun p b first
+-- what the run answers, where it ends with so many issues left in its budget
+pub ends : (p : List ℕ) (b : ℕ) (first : State) (left looked : ℕ) (s : State) → Carried p b first (b - left) looked s → left ≤ b
+    → (running : Bool) → Over p left s running → (looks : ℕ) → looks ≡ looked + look s
+    → record { answer = given (cond running spent (idleEnding (s .machine))); issues = b - left; looks = looks; left = s } ≡ acceptedRun p b first
 unfolding acceptedRun looksFor
-ends p b first made looked s k more further t j running o looks e =
-    let f : reached p b first ≡ t = k .state ∙ j .state ∙ o .stays in
-    let g : length (issues p b first) ≡ made + more = omega (arith, k .count, j .count, ap length (o .none)) in
-    let h : looksFor (issues p b first) + look t ≡ looked + looks = omega (arith, k .looks, j .looks, ap looksFor (o .none), e) in
+ends p b first left looked s k l running o looks e =
+    let d : b - (b - left) ≡ left = omega arith in
+    let none : issues p (b - (b - left)) s ≡ [] = ap (λ n. issues p n s) d ∙ o .none in
+    let f : reached p b first ≡ s = k .state ∙ ap (λ n. reached p n s) d ∙ o .stays in
+    let g : length (issues p b first) ≡ b - left = omega (arith, k .count, ap length none) in
+    let h : looksFor (issues p b first) + look s ≡ looks = omega (arith, k .looks, ap looksFor none, e) in
     rw (f, g, h, o .ending)
 
 -- no thread is running

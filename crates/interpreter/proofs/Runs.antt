@@ -1,5 +1,5 @@
 -- What a run keeps, and what two runs of one program make together.
-use Prim.Native.Nat.{ℕ, zero, suc, _+_, _*_, _≤_}
+use Prim.Native.Nat.{ℕ, zero, suc, _+_, _-_, _*_, _≤_}
 use mathlib.Core.Bool.{Bool, true, false, cond}
 use mathlib.Core.List.{List, [], _∷_, _++_}
 use mathlib.Core.Option.{Option, none, some}
@@ -132,7 +132,7 @@ carried-within p b first made looked s k =
 
 pub stretched-within : (p : List ℕ) (b : ℕ) (first : State) (r : Stretch) (s : State) → Stretched p b first r s → r .looks ≤ 8 * b + 8
 stretched-within p b first r s k =
-    omega (arith, k .looks, carried-within p b first (r .made) (k .looked) s (k .carried), last (r .changed))
+    omega (arith, k .looks, carried-within p b first (b - r .left) (r .passed) s (k .carried), last (r .changed))
   where
     last : (changed : Bool) → cond changed 0 (look s) ≤ 8
     last true = omega arith

@@ -1,5 +1,5 @@
 -- Issues in a row within a run, and where a run ends: what the parts of the call `run` promise each other.
-use Prim.Native.Nat.{ℕ, _+_, _-_, _≤_}
+use Prim.Native.Nat.{ℕ, _+_, _-_, _<_, _≤_}
 use mathlib.Core.Bool.{Bool, true, false, cond}
 use mathlib.Core.List.{List, []}
 use mathlib.Core.Path.{_≡_}
@@ -23,10 +23,9 @@ pub record Over (p : List ℕ) (left : ℕ) (s : State) (running : Bool) : Type 
 
 -- from `first` with the budget b, a stretch r of issues has come to s
 pub record Stretched (p : List ℕ) (b : ℕ) (first : State) (r : Stretch) (s : State) : Type 0 where
-  pub looked : ℕ
-  pub carried : Carried p b first (r .made) looked s
-  pub within : r .made ≤ b
-  pub some-made : r .changed ≡ true → 1 ≤ r .made
-  pub over : r .changed ≡ false → Over p (b - r .made) s (r .running)
+  pub carried : Carried p b first (b - r .left) (r .passed) s
+  pub within : r .left ≤ b
+  pub some-made : r .changed ≡ true → r .left < b
+  pub over : r .changed ≡ false → Over p (r .left) s (r .running)
   -- where nothing more is issued, there was the last look too
-  pub looks : r .looks ≡ looked + cond (r .changed) 0 (look s)
+  pub looks : r .looks ≡ r .passed + cond (r .changed) 0 (look s)

@@ -5,6 +5,7 @@ ghost use mathlib.Core.Path.{_≡_};
 ghost use lib.ListN.{length};
 ghost use Rattle.answer.specs.Answer.{given};
 ghost use Rattle.answer.specs.Refusal.{numberOf, programWords, registerWords};
+ghost use Rattle.machine.specs.Rounds.{afterRounds};
 ghost use Rattle.machine.specs.State.{state, recounted};
 ghost use Rattle.interpreter.specs.Answer.{stopped, stuck, spent, answered};
 ghost use Rattle.interpreter.specs.Choosing.{idleEnding};
@@ -67,81 +68,91 @@ fn ended(machine: Machine, running: bool, made: u32, looks: u64) -> Run
     }
 }
 
-// Issues in a row: the record that they reach, but for its counts of turns, how many were made, how many entries were looked at, whether
-// the last of them changed a status, and, where it did not and nothing more is issued, whether a thread is running: the look that tells
-// so counts too.
+// Issues in a row: the record that they reach, but for its counts of turns, how many issues are left in the budget, how many entries
+// "last" has passed, how many were looked at, whether the last of them changed a status, and, where it did not and nothing more is
+// issued, whether a thread is running: the look that tells so counts too.
 pub struct Stretch {
     pub machine: Machine,
-    pub made: u32,
+    pub left: u32,
+    pub passed: u64,
     pub looks: u64,
     pub changed: bool,
     pub running: bool,
 }
 
 // Issues up to the first that changes a status. Until then nothing of the record changes but "last", so that the compiler finds the
-// running threads once and not for every issue; the counts of turns stand beside it.
+// running threads once and not for every issue, and nothing is counted for an issue: every round of eight entries is one turn of each
+// running thread.
 fn make_stretch(
     program: &[u32],
     registers: &mut [u32],
     memory: &mut [u8],
-    mut machine: Machine,
-    turns: &mut [u32; 8],
-    budget: u32,
+    machine: Machine,
+    turns: &[u32; 8],
+    mut left: u32,
 ) -> Stretch
     requires { ⌜ (length (now program) ≤ programWords) × (length (now registers) ≡ registerWords) × (length (now turns) ≡ 8) ⌝ }
     ensures { λ r. ⌜
-        Stretched (now (program .entry)) budget
+        Stretched (now (program .entry)) left
         (recounted (state machine (now (registers .entry)) (now (memory .entry))) (now (turns .entry))) r
-        (recounted (state (r .machine) (now (registers .exit)) (now (memory .exit))) (now (turns .exit)))
-        × (length (now (turns .exit)) ≡ 8)
+        (recounted (state (r .machine) (now (registers .exit)) (now (memory .exit))) (afterRounds machine (r .passed) (now (turns .entry))))
         ⌝ }
 {
-    let mut made: u32 = 0;
-    let mut looks: u64 = 0;
+    let mut passed: u64 = 0;
+    let mut last = machine.last;
     loop {
-        let turn = machine.choose();
+        let at = machine.with_last(last);
+        let turn = at.choose();
         let choice = turn.choice;
         let next = turn.machine;
         match choice {
             Choice::NoneRunning => {
-                looks += 8;
                 return Stretch {
-                    machine,
-                    made,
-                    looks,
+                    machine: at,
+                    left,
+                    passed,
+                    looks: passed + 8,
                     changed: false,
                     running: false,
                 };
             }
             Choice::Chosen { thread, distance } => {
-                looks += distance as u64;
-                if made == budget {
+                let reached = passed + distance as u64;
+                if left == 0 {
                     return Stretch {
-                        machine,
-                        made,
-                        looks,
+                        machine: at,
+                        left,
+                        passed,
+                        looks: reached,
                         changed: false,
                         running: true,
                     };
                 }
-                let issued = fast_path::issue(program, registers, memory, next, thread, turns);
+                left -= 1;
+                let rounds = (reached - 1) / 8;
+                let issued = fast_path::issue(
+                    program,
+                    registers,
+                    memory,
+                    next,
+                    thread,
+                    turns,
+                    rounds,
+                );
                 let after = issued.machine;
                 let changed = issued.changed;
-                // The thread by its place in the record, so that the compiler need not keep it over the issue.
-                let last = next.last as usize;
-                let has = machine::one_more(turns[last]);
-                turns[last] = has;
-                made += 1;
                 if changed {
                     return Stretch {
                         machine: after,
-                        made,
-                        looks,
+                        left,
+                        passed: reached,
+                        looks: reached,
                         changed,
                         running: true,
                     };
                 }
-                machine = next;
+                passed = reached;
+                last = next.last;
             }
         }
     }
@@ -158,24 +169,23 @@ fn make_issues(
     requires { ⌜ (length (now program) ≤ programWords) × (length (now registers) ≡ registerWords) ⌝ }
     ensures { λ r. ⌜ outcome r (now (registers .exit)) (now (memory .exit)) ≡ acceptedRun (now (program .entry)) budget (state machine (now (registers .entry)) (now (memory .entry))) ⌝ }
 {
-    let mut made: u32 = 0;
+    let mut left = budget;
     let mut looks: u64 = 0;
     let mut turns = machine.turns();
     loop {
-        let stretch = make_stretch(
-            program,
-            registers,
-            memory,
-            machine,
-            &mut turns,
-            budget - made,
-        );
+        let stretch = make_stretch(program, registers, memory, machine, &turns, left);
         let changed = stretch.changed;
+        turns = machine.count_rounds(turns, stretch.passed);
         machine = stretch.machine;
-        made += stretch.made;
+        left = stretch.left;
         looks += stretch.looks;
         if !changed {
-            return ended(machine.with_turns(turns), stretch.running, made, looks);
+            return ended(
+                machine.with_turns(turns),
+                stretch.running,
+                budget - left,
+                looks,
+            );
         }
     }
 }

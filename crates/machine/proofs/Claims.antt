@@ -5,3 +5,4 @@ pub use Rattle.machine.proofs.Choosing.{chooses, chooses-none, turned}
 pub use Rattle.machine.proofs.Kept.{enabled, issues, traps, ends}
 pub use Rattle.machine.proofs.Arrivals.{meets}
 pub use Rattle.machine.proofs.Turns.{counts-kept, counts-unseen, counts-apart, counting}
+pub use Rattle.machine.proofs.Rounds.{rounds-counted}

@@ -8,6 +8,7 @@ pub mod Entries
 pub mod Conditions
 pub mod Kept
 pub mod Turns
+pub mod Rounds
 pub mod Meetings
 pub mod Arrivals
 pub mod Starting

@@ -79,40 +79,40 @@ module _ (p : ℕ → Bool) where
   unfolding count
   count-done k c l = let f : count p (from k (8 - k)) ≡ 0 = stop (count p) k 8 l refl in omega arith
 
--- the first t entries changed, entry u by f u
-unfoldable pub changed : (ℕ → Thread → Thread) → List Thread → ℕ → List Thread
+-- the first t of a list changed, number u by f u
+unfoldable pub changed : {A : Type 0} → (ℕ → A → A) → List A → ℕ → List A
 changed f xs zero = xs
 changed f [] (suc t) = []
 changed f (x ∷ xs) (suc t) = f 0 x ∷ changed (λ u. f (suc u)) xs t
 
--- the record so
+-- the record with its entries so
 abbrev pub changedTo : (ℕ → Thread → Thread) → Machine → ℕ → Machine
 changedTo f m t = record { enabled = m .enabled; last = m .last; threads = changed f (m .threads) t }
 
-changed-next : (f : ℕ → Thread → Thread) (xs : List Thread) (t : ℕ) → getD (changed f xs t) t zeroThread ≡ getD xs t zeroThread
+pub changed-next : {A : Type 0} (f : ℕ → A → A) (xs : List A) (t : ℕ) (d : A) → getD (changed f xs t) t d ≡ getD xs t d
 unfolding changed
-changed-next f xs zero = refl
-changed-next f [] (suc t) = refl
-changed-next f (x ∷ xs) (suc t) = changed-next (λ u. f (suc u)) xs t
+changed-next f xs zero d = refl
+changed-next f [] (suc t) d = refl
+changed-next f (x ∷ xs) (suc t) d = changed-next (λ u. f (suc u)) xs t d
 
-changed-suc : (f : ℕ → Thread → Thread) (xs : List Thread) (t : ℕ) → t < length xs
-    → set (changed f xs t) t (f t (getD xs t zeroThread)) ≡ changed f xs (suc t)
+pub changed-suc : {A : Type 0} (f : ℕ → A → A) (xs : List A) (t : ℕ) (d : A) → t < length xs
+    → set (changed f xs t) t (f t (getD xs t d)) ≡ changed f xs (suc t)
 unfolding changed
-changed-suc f [] t l = absurd (omega arith)
-changed-suc f (x ∷ xs) zero l = refl
-changed-suc f (x ∷ xs) (suc t) l = ap {B = List Thread} (λ r. f 0 x ∷ r) (changed-suc (λ u. f (suc u)) xs t (omega arith))
+changed-suc f [] t d l = absurd (omega arith)
+changed-suc f (x ∷ xs) zero d l = refl
+changed-suc {A} f (x ∷ xs) (suc t) d l = ap {B = List A} (λ r. f 0 x ∷ r) (changed-suc (λ u. f (suc u)) xs t d (omega arith))
 
 -- the next thread's status is as it was
 pub status-next : (f : ℕ → Thread → Thread) (m : Machine) (t : ℕ) → statusAt (changedTo f m t) t ≡ statusAt m t
-status-next f m t = ap (λ e. e .status) (changed-next f (m .threads) t)
+status-next f m t = ap (λ e. e .status) (changed-next f (m .threads) t zeroThread)
 
 -- and changing it makes one more
 pub change : (f : ℕ → Thread → Thread) (m : Machine) (t : ℕ) → t < length (m .threads)
     → record { enabled = m .enabled; last = m .last; threads = set (changed f (m .threads) t) t (f t (getD (changed f (m .threads) t) t zeroThread)) } ≡ changedTo f m (t + 1)
 change f m t l =
     ap (λ xs. record { enabled = m .enabled; last = m .last; threads = xs })
-    (ap (λ e. set (changed f (m .threads) t) t (f t e)) (changed-next f (m .threads) t)
-    ∙ (changed-suc f (m .threads) t l ∙ ap (changed f (m .threads)) (sym (add-one t))))
+    (ap (λ e. set (changed f (m .threads) t) t (f t e)) (changed-next f (m .threads) t zeroThread)
+    ∙ (changed-suc f (m .threads) t zeroThread l ∙ ap (changed f (m .threads)) (sym (add-one t))))
 
 -- each status by a rule
 abbrev pub restating : (ℕ → Status) → ℕ → Thread → Thread

@@ -127,3 +127,34 @@ module _ (p q : ℕ → Bool) where
   pub count-one-more : (t : ℕ) → ((u : ℕ) → (u ≡ t → ⊥) → p u ≡ true → q u ≡ true) → countThreads p ≤ countThreads q + 1
   unfolding countThreads from
   count-one-more t h = count-but t 0 8 h
+
+  -- exactly one more, where one passes the first test alone
+  count-same : (k n : ℕ) → ((j : ℕ) → k ≤ j → p j ≡ q j) → count p (from k n) ≡ count q (from k n)
+  unfolding count from
+  count-same k zero h = refl
+  count-same k (suc n) h =
+      let e = count-same (suc k) n (λ j a. h j (omega arith)) in
+      λ i. cond (h k (omega arith) i) (suc (e i)) (e i)
+
+  module _ (t : ℕ) (own : p t ≡ true) (apart : q t ≡ false) (others : (u : ℕ) → (u ≡ t → ⊥) → p u ≡ q u) where
+    count-but-one : (k n : ℕ) → k ≤ t → t < k + n → count p (from k n) ≡ suc (count q (from k n))
+    unfolding count from
+    count-but-one k zero a b = absurd (omega arith)
+    count-but-one k (suc n) a b = go (ℕ-discrete k t) (λ l. count-but-one (suc k) n l (omega arith))
+      where
+        step : (b c : Bool) → c ≡ b → count p (from (suc k) n) ≡ suc (count q (from (suc k) n))
+            → cond c (suc (count p (from (suc k) n))) (count p (from (suc k) n)) ≡ suc (cond b (suc (count q (from (suc k) n))) (count q (from (suc k) n)))
+        step true c e h = rw e (ap suc h)
+        step false c e h = rw e h
+
+        go : Dec (k ≡ t) → (suc k ≤ t → count p (from (suc k) n) ≡ suc (count q (from (suc k) n)))
+            → cond (p k) (suc (count p (from (suc k) n))) (count p (from (suc k) n))
+            ≡ suc (cond (q k) (suc (count q (from (suc k) n))) (count q (from (suc k) n)))
+        go (yes e) rest =
+            let same = count-same (suc k) n (λ j l. others j (λ f. omega arith)) in
+            rw (ap p e ∙ own, ap q e ∙ apart) (ap suc same)
+        go (no e) rest = step (q k) (p k) (others k e) (rest (omega (arith, e)))
+
+    pub count-one-apart : t < 8 → countThreads p ≡ suc (countThreads q)
+    unfolding countThreads from
+    count-one-apart l = count-but-one 0 8 (omega arith) (omega arith)

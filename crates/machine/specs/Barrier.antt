@@ -1,10 +1,11 @@
 -- Meeting at a barrier (document 01, "Meeting at a barrier").
-use Prim.Native.Nat.{ℕ, _+_}
-use mathlib.Core.Bool.{Bool, true, false, _||_, cond}
+use Prim.Native.Nat.{ℕ, _+_, _≤_}
+use mathlib.Core.Bool.{Bool, true, false, not, _&&_, _||_, cond}
 use mathlib.Core.List.{map}
+use mathlib.Core.Path.{_≡_}
 use lib.Dec.{ltb, eqb}
 use Rattle.answer.specs.Reason.{barrier-refused}
-use Rattle.machine.specs.Machine.{withStatus, withStatusAt, trap}
+use Rattle.machine.specs.Machine.{countThreads, statusAt, withStatus, withStatusAt, trap}
 use Rattle.machine.specs.Status.{limits, waitsAt}
 use Rattle.machine.specs.Types.{Status, Running, Waiting, Machine, BarrierResult}
 use Rattle.machine.specs.WellFormed.{waiting, disputed}
@@ -29,6 +30,21 @@ releaseIfMet m id count = cond (eqb (waiting m id) count) (release m id) m
 -- "Else .. the thread waits; if now as many wait at the id as the count says, all of them are running."
 abbrev pub arrive : Machine → ℕ → ℕ → ℕ → Machine
 arrive m t id count = releaseIfMet (withStatusAt m t (Waiting id count)) id count
+
+-- the same of a thread that another may dispute the count with, and whether it trapped
+abbrev pub arriveOrTrap : Machine → ℕ → ℕ → ℕ → BarrierResult
+arriveOrTrap m t id count =
+    cond (disputed m t id count)
+    (record { trapped = true; machine = trap m t barrier-refused })
+    (record { trapped = false; machine = arrive m t id count })
+
+-- how many threads wait at a barrier beside one, and a number for them that also says where one of them names another count
+abbrev pub othersWaiting : Machine → ℕ → ℕ → ℕ
+othersWaiting m t id = countThreads (λ u. not (eqb u t) && waitsAt id (statusAt m u))
+
+pub record OthersWait (m : Machine) (t id count r : ℕ) : Type 0 where
+  pub disputed-is : disputed m t id count ≡ eqb r 9
+  pub agreed-are : disputed m t id count ≡ false → (r ≡ othersWaiting m t id) × (r ≤ 8)
 
 -- a meeting of a thread with two register values, and whether it trapped
 unfoldable pub reachBarrier : Machine → ℕ → ℕ → ℕ → BarrierResult

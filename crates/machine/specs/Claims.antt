@@ -1,5 +1,5 @@
 -- What is proved of the definitions, for other crates to cite.
-use Prim.Native.Nat.{ℕ, _<_, _≤_}
+use Prim.Native.Nat.{ℕ, _+_, _-_, _/_, _%_, _<_, _≤_}
 use mathlib.Core.Bool.{true, false}
 use mathlib.Core.List.{List}
 use mathlib.Core.Logic.{_↔_}
@@ -7,7 +7,8 @@ use mathlib.Core.Path.{_≡_}
 use lib.ListN.{length, getD, set}
 use Rattle.bits.specs.Bit.{bit}
 use Rattle.machine.specs.Barrier.{reachBarrier}
-use Rattle.machine.specs.Machine.{statusAt, withStatusAt, oneMore, counted, turnsAt, turnsOf, withTurns, trap, end, start}
+use Rattle.machine.specs.Machine.{statusAt, withStatusAt, oneMore, manyMore, counted, turnsAt, turnsOf, withTurns, trap, end, start}
+use Rattle.machine.specs.Rounds.{afterRounds}
 use Rattle.machine.specs.Scheduler.{runs, after, choice, withLast, afterChoice, choose, someWaits}
 use Rattle.machine.specs.Status.{limits}
 use Rattle.machine.specs.Types.{Limits, Status, Idle, Trapped, Waiting, Machine, Choice, Chosen, NoneRunning, Turn}
@@ -127,3 +128,14 @@ pub record Counting : Type 0 where
   pub others : (m : Machine) (t u : ℕ) → (u ≡ t → ⊥) → turnsAt (counted m t) u ≡ turnsAt m u
   pub statuses : (m : Machine) (t u : ℕ) → statusAt (counted m t) u ≡ statusAt m u
   pub keeps : (m n : Machine) (t : ℕ) → KeepsRecord m t n → KeepsRecord m t (counted n t)
+
+-- issues in a row that set no status, from a record m: their counts follow from how many entries the chooser passed
+pub record RoundsCounted : Type 0 where
+  pub size : (m : Machine) (passed : ℕ) (turns : List ℕ) → length (afterRounds m passed turns) ≡ length turns
+  pub none : (m : Machine) (turns : List ℕ) → afterRounds m 0 turns ≡ turns
+  -- where "last" has come so many entries on and a thread is chosen, it had so many turns, and has one more after its issue
+  pub had : (m : Machine) (turns : List ℕ) (passed last t d : ℕ) → length turns ≡ 8 → last % 8 ≡ (m .last + passed) % 8
+      → choice (withLast m last) ≡ Chosen t d → getD (afterRounds m passed turns) t 0 ≡ manyMore ((passed + d - 1) / 8) (getD turns t 0)
+  pub one-more : (m : Machine) (turns : List ℕ) (passed last t d : ℕ) → length turns ≡ 8 → last % 8 ≡ (m .last + passed) % 8
+      → choice (withLast m last) ≡ Chosen t d
+      → afterRounds m (passed + d) turns ≡ set (afterRounds m passed turns) t (oneMore (getD (afterRounds m passed turns) t 0))

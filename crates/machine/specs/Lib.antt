@@ -6,5 +6,6 @@ pub mod Machine
 pub mod State
 pub mod WellFormed
 pub mod Scheduler
+pub mod Rounds
 pub mod Barrier
 pub mod Claims

@@ -1,5 +1,5 @@
 -- The machine record: its eight threads, what it begins as, and what changes in it (document 01, "What a machine holds").
-use Prim.Native.Nat.{ℕ, _+_, _%_, _^_}
+use Prim.Native.Nat.{ℕ, zero, suc, _+_, _%_, _^_}
 use mathlib.Core.Bool.{Bool, cond}
 use mathlib.Core.List.{List, [], _∷_, map}
 use lib.Dec.{eqb}
@@ -52,6 +52,11 @@ withStatusAt m t status =
 -- a count after one issue more, and the record with one more of a thread
 abbrev pub oneMore : ℕ → ℕ
 oneMore turns = (turns + 1) % 2 ^ 32
+
+-- after many
+unfoldable pub manyMore : ℕ → ℕ → ℕ
+manyMore zero turns = turns
+manyMore (suc n) turns = oneMore (manyMore n turns)
 
 abbrev pub counted : Machine → ℕ → Machine
 counted m t =

@@ -1,10 +1,11 @@
 // Meeting at a barrier.
+ghost use Prim.Native.Nat.{_%_, _<_};
 ghost use mathlib.Core.Path.{_≡_};
-ghost use Rattle.machine.specs.Barrier.{released, release, arrive, refusesBarrier, reachBarrier};
-ghost use Rattle.machine.specs.WellFormed.{waiting, disputed};
+ghost use Rattle.machine.specs.Barrier.{released, release, OthersWait, arriveOrTrap, reachBarrier};
 use crate::record::Machine;
 use crate::status::GREATEST_BARRIER;
 use crate::status::Status;
+use crate::status::is_waiting;
 use crate::status::waits_at;
 use crate::status::waits_otherwise;
 
@@ -25,28 +26,21 @@ fn released(status: Status, id: u8) -> Status
 }
 
 impl Machine {
-    // Whether another thread waits at a barrier with another count.
-    fn disputed(self, thread: usize, id: u8, count: u8) -> bool
-        ensures { λ r. ⌜ r ≡ disputed self thread id count ⌝ }
-    {
-        for t in 0..8 {
-            let status = self.status_at(t);
-            if (t != thread) & waits_otherwise(status, id, count) {
-                return true;
-            }
-        }
-        false
-    }
-
-    // How many threads wait at a barrier.
-    fn waiting(self, id: u8) -> usize
-        ensures { λ r. ⌜ r ≡ waiting self id ⌝ }
+    // How many others wait at a barrier, or 9 where one of them waits there with another count. One pass, which asks first whether an entry
+    // waits at all: few do.
+    fn others(self, thread: usize, id: u8, count: u8) -> usize
+        ensures { λ r. ⌜ OthersWait self thread id count r ⌝ }
     {
         let mut n: usize = 0;
         for t in 0..8 {
             let status = self.status_at(t);
-            if waits_at(status, id) {
-                n += 1;
+            if is_waiting(status) {
+                if (t != thread) & waits_at(status, id) {
+                    if waits_otherwise(status, id, count) {
+                        return 9;
+                    }
+                    n += 1;
+                }
             }
         }
         n
@@ -63,45 +57,44 @@ impl Machine {
         self
     }
 
-    // A thread waits; if as many wait there as the count says, all of them are running.
-    fn arrive(self, thread: usize, id: u8, count: u8) -> Machine
-        ensures { λ r. ⌜ r ≡ arrive self thread id count ⌝ }
+    // A thread comes to a barrier: it is trapped where another waits there with another count; it waits; or, if as many wait there now as
+    // the count says, all of them are running.
+    fn arrive(self, thread: usize, id: u8, count: u8) -> BarrierResult
+        requires { ⌜ thread < 8 ⌝ }
+        ensures { λ r. ⌜ r ≡ arriveOrTrap self thread id count ⌝ }
     {
-        let machine = self.with_status(thread, Status::Waiting(id, count));
-        let n = machine.waiting(id);
-        if n == count as usize {
-            return machine.release(id);
-        }
-        machine
-    }
-
-    // Whether a meeting traps. The register values are the id, and the count less one.
-    fn refuses_barrier(self, thread: usize, id: u32, second: u32) -> bool
-        ensures { λ r. ⌜ r ≡ refusesBarrier self thread id second ⌝ }
-    {
-        if (GREATEST_BARRIER as u32) < id {
-            return true;
-        }
-        if 7 < second {
-            return true;
-        }
-        self.disputed(thread, id as u8, (second + 1) as u8)
-    }
-
-    // A thread meets others at a barrier, or is trapped.
-    pub fn reach_barrier(self, thread: usize, id: u32, second: u32) -> BarrierResult
-        ensures { λ r. ⌜ r ≡ reachBarrier self thread id second ⌝ }
-    {
-        let trapped = self.refuses_barrier(thread, id, second);
-        if trapped {
+        let n = self.others(thread, id, count);
+        if n == 9 {
             return BarrierResult {
-                trapped,
+                trapped: true,
                 machine: self.trap(thread, 5),
             };
         }
-        BarrierResult {
-            trapped,
-            machine: self.arrive(thread, id as u8, (second + 1) as u8),
+        if n + 1 == count as usize {
+            let running = self.with_status(thread, Status::Running);
+            return BarrierResult {
+                trapped: false,
+                machine: running.release(id),
+            };
         }
+        BarrierResult {
+            trapped: false,
+            machine: self.with_status(thread, Status::Waiting(id, count)),
+        }
+    }
+
+    // A thread meets others at a barrier, or is trapped. The register values are the id, and the count less one. A number past the last
+    // thread's goes round.
+    pub fn reach_barrier(self, thread: usize, id: u32, second: u32) -> BarrierResult
+        ensures { λ r. ⌜ r ≡ reachBarrier self (thread % 8) id second ⌝ }
+    {
+        let t = thread % 8;
+        if ((GREATEST_BARRIER as u32) < id) | (7 < second) {
+            return BarrierResult {
+                trapped: true,
+                machine: self.trap(t, 5),
+            };
+        }
+        self.arrive(t, id as u8, (second + 1) as u8)
     }
 }

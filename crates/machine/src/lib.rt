@@ -18,4 +18,4 @@ pub use scheduler::Choice;
 pub use scheduler::Turn;
 pub use status::Status;
 pub use status::Thread;
-pub use status::one_more;
+pub use status::many_more;

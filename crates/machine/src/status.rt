@@ -1,6 +1,6 @@
 // A thread's entry: its status, with what that status carries, and its count of turns.
 ghost use mathlib.Core.Path.{_≡_};
-ghost use Rattle.machine.specs.Machine.{entryOf, zeroThread, oneMore, withStatus, withCount};
+ghost use Rattle.machine.specs.Machine.{entryOf, zeroThread, manyMore, withStatus, withCount};
 ghost use Rattle.machine.specs.Status.{limits, isRunning, isWaiting, waitsAt, waitsOtherwise, carriesInRange};
 
 // Trapped carries a reason; Waiting carries a barrier id and a count.
@@ -102,11 +102,11 @@ pub fn carries_in_range(status: Status, limits: Limits) -> bool
     }
 }
 
-// A count with one issue more: it wraps at 2^32.
-pub fn one_more(turns: u32) -> u32
-    ensures { λ r. ⌜ r ≡ oneMore turns ⌝ }
+// A count with so many issues more: it wraps at 2^32.
+pub fn many_more(turns: u32, issues: u64) -> u32
+    ensures { λ r. ⌜ r ≡ manyMore issues turns ⌝ }
 {
-    std::num::wrapping_add_u32(turns, 1)
+    std::num::wrapping_add_u32(turns, (issues % 0x100000000) as u32)
 }
 
 impl Thread {

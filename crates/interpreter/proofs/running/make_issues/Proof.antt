@@ -7,29 +7,27 @@ use borrow.Author.Tests.{not-true, not-false}
 use lib.ListN.{length}
 use Rattle.machine.specs.Machine.{withTurns}
 use Rattle.machine.specs.State.{state, recounted}
-use Rattle.machine.proofs.Claims.{counts-kept}
+use Rattle.machine.proofs.Claims.{counts-kept, rounds-counted}
 use Rattle.interpreter.specs.Stretch.{Carried}
-use Rattle.interpreter.proofs.Issuing.{carried-start, carried-on, goes-on, looks-over, ends}
+use Rattle.interpreter.proofs.Issuing.{carried-start, carried-further, goes-on, looks-over, ends}
 use Rattle.interpreter.proofs.Runs.{carried-within, stretched-within}
 use Rattle.interpreter.proofs.running.make_issues.Statement.{statement}
 use Rattle.interpreter.proofs.running.make_issues.Tie as tie
 
 abbrev Inv-loop : tie.InvT-loop
-Inv-loop program registers₀ memory₀ machine₀ budget made₀ looks₀ turns₀ registers memory machine made looks turns =
-    (made ≤ budget) × (length registers ≡ length registers₀) × (length memory ≡ length memory₀) × (length turns ≡ 8)
-    × Carried program budget (state machine₀ registers₀ memory₀) made looks (recounted (state machine registers memory) turns)
+Inv-loop program registers₀ memory₀ machine₀ budget left₀ looks₀ turns₀ registers memory machine left looks turns =
+    (left ≤ budget) × (length registers ≡ length registers₀) × (length memory ≡ length memory₀) × (length turns ≡ 8)
+    × Carried program budget (state machine₀ registers₀ memory₀) (budget - left) looks (recounted (state machine registers memory) turns)
 
 abbrev μ-loop : tie.MeasureT-loop
-μ-loop program registers₀ memory₀ machine₀ budget made₀ looks₀ turns₀ registers memory machine made looks turns = budget - made
+μ-loop program registers₀ memory₀ machine₀ budget left₀ looks₀ turns₀ registers memory machine left looks turns = left
 
 loop-holds : tie.Need-loop-holds Inv-loop μ-loop
 loop-holds c =
-    let m = c .before .before .before .before .args .machine in
-    let e : withTurns m (c .turns .result) ≡ m = ap (withTurns m) (c .turns .ensures .0) ∙ counts-kept .put-own m in
-    (omega arith, refl, refl, c .turns .ensures .1, rw e (carried-start _ _ _))
-
-sub-make-stretch : tie.Need-sub-make-stretch Inv-loop μ-loop
-sub-make-stretch c = omega (arith, c .before .before .before .loop .inv .0)
+    let a = c .before .before .before .before .args in
+    let e : withTurns (a .machine) (c .turns .result) ≡ a .machine = ap (withTurns (a .machine)) (c .turns .ensures .0) ∙ counts-kept .put-own (a .machine) in
+    let f : a .budget - a .budget ≡ 0 = omega arith in
+    (omega arith, refl, refl, c .turns .ensures .1, rw (e, f) (carried-start _ _ _))
 
 make-stretch-requires : tie.Need-make-stretch-requires Inv-loop μ-loop
 make-stretch-requires c κs =
@@ -37,66 +35,58 @@ make-stretch-requires c κs =
     let start = c .before .before .before .before .before .before .before .before in
     (start .pre .0, l .inv .1 ∙ start .pre .1, l .inv .3)
 
-add-made : tie.Need-add-made Inv-loop μ-loop
-add-made c =
-    let m = c .before .before .before .before .before .before .make-stretch in
-    let l = c .before .before .before .before .before .before .before .before .before .before .loop in
-    let start = c .before .before .before .before .before .before .before .before .before .before .before .before .before .before .before in
-    omega (arith, start .fits .budget, l .inv .0, m .ensures .0 .within)
-
 add-looks : tie.Need-add-looks Inv-loop μ-loop
 add-looks c =
     let m = c .before .before .before .before .before .before .before .make-stretch in
     let l = c .before .before .before .before .before .before .before .before .before .before .before .loop in
     let start = c .before .before .before .before .before .before .before .before .before .before .before .before .before .before .before .before in
-    omega (arith, start .fits .budget, carried-within _ _ _ _ _ _ (l .inv .4), stretched-within _ _ _ (m .result) _ (m .ensures .0))
+    omega (arith, start .fits .budget, l .inv .0, carried-within _ _ _ _ _ _ (l .inv .4), stretched-within _ _ _ (m .result) _ (m .ensures))
 
 -- nothing more is issued
 returns : tie.Need-returns Inv-loop μ-loop
 returns c =
     let put = c .before .with-turns .ensures in
+    let rounds = c .before .before .before .before .before .count-rounds .ensures in
     let m = c .before .before .before .before .before .before .before .before .before .before .make-stretch in
     let l = c .before .before .before .before .before .before .before .before .before .before .before .before .before .before .loop in
     let stays = not-true (m .result .changed) (c .before .before .if1 .taken) in
     let e = c .ended .ensures in
+    let further = carried-further _ _ _ (l .left) (l .looks) (recounted (state (l .machine) (l .registers) (l .memory)) (l .turns)) (l .inv .4) (l .inv .0)
+    (m .result .left) (m .result .passed) _ (m .ensures .carried) (m .ensures .within) in
     (λ i. record { answer = e .0 i; issues = e .1 i; looks = e .2 i; left = state (e .3 i) (m .last .1 .0) (m .last .1 .1 .0) })
-    ∙ rw put
-    (ends _ _ _ (l .made) (l .looks) (recounted (state (l .machine) (l .registers) (l .memory)) (l .turns)) (l .inv .4) (m .result .made) _ _
-    (m .ensures .0 .carried) (m .result .running) (m .ensures .0 .over stays) (m .result .looks) (looks-over _ _ _ (m .result) _ (m .ensures .0) stays))
+    ∙ rw (put, rounds)
+    (ends _ _ _ (m .result .left) _ _ further (omega (arith, l .inv .0, m .ensures .within)) (m .result .running) (m .ensures .over stays) _
+    (omega (arith, looks-over _ _ _ (m .result) _ (m .ensures) stays)))
 
 -- both lent buffers keep their lengths
 same-length : tie.Need-same-length Inv-loop μ-loop
-same-length c =
-    let m = c .before .before .before .before .before .before .before .before .before .before .make-stretch in
-    let l = c .before .before .before .before .before .before .before .before .before .before .before .before .before .before .loop in
-    m .kept .1 .0 ∙ l .inv .1
+same-length c = c .before .before .before .before .before .before .before .before .before .before .make-stretch .kept .1 .0 ∙ c .before .before .before .before .before .before .before .before .before .before .before .before .before .before .loop .inv .1
 
 same-length-2 : tie.Need-same-length-2 Inv-loop μ-loop
-same-length-2 c =
-    let m = c .before .before .before .before .before .before .before .before .before .before .make-stretch in
-    let l = c .before .before .before .before .before .before .before .before .before .before .before .before .before .before .loop in
-    m .kept .1 .1 .0 ∙ l .inv .2
+same-length-2 c = c .before .before .before .before .before .before .before .before .before .before .make-stretch .kept .1 .1 .0 ∙ c .before .before .before .before .before .before .before .before .before .before .before .before .before .before .loop .inv .2
 
 loop-less : tie.Need-loop-less Inv-loop μ-loop
 loop-less c =
     let m = c .before .before .before .before .before .before .before .before .make-stretch in
-    let l = c .before .before .before .before .before .before .before .before .before .before .before .before .loop in
-    omega (arith, l .inv .0, m .ensures .0 .within, m .ensures .0 .some-made (not-false (m .result .changed) (c .if1 .left)))
+    m .ensures .some-made (not-false (m .result .changed) (c .if1 .left))
 
 loop-again : tie.Need-loop-again Inv-loop μ-loop
 loop-again c =
+    let rounds = c .before .before .before .count-rounds .ensures in
     let m = c .before .before .before .before .before .before .before .before .make-stretch in
-    let l = c .before .before .before .before .before .before .before .before .before .before .before .before .loop in (
-      omega (arith, l .inv .0, m .ensures .0 .within),
+    let l = c .before .before .before .before .before .before .before .before .before .before .before .before .loop in
+    let changed = not-false (m .result .changed) (c .if1 .left) in
+    let further = carried-further _ _ _ (l .left) (l .looks) (recounted (state (l .machine) (l .registers) (l .memory)) (l .turns)) (l .inv .4) (l .inv .0)
+    (m .result .left) (m .result .passed) _ (m .ensures .carried) (m .ensures .within) in (
+      omega (arith, l .inv .0, m .ensures .within),
       m .kept .1 .0 ∙ l .inv .1,
       m .kept .1 .1 .0 ∙ l .inv .2,
-      m .ensures .1,
-      carried-on _ _ _ (l .made) (l .looks) (recounted (state (l .machine) (l .registers) (l .memory)) (l .turns)) (l .inv .4) (m .result .made) (m .result .looks) _
-          (goes-on _ _ _ (m .result) _ (m .ensures .0) (not-false (m .result .changed) (c .if1 .left))),
+      ap length rounds ∙ rounds-counted .size (l .machine) (m .result .passed) (l .turns) ∙ l .inv .3,
+      rw (rounds, goes-on _ _ _ (m .result) _ (m .ensures) changed) further,
     )
 
 pub make-issues-spec : {M : Type 1} → statement M
 make-issues-spec =
     tie.close
-    (tie.spec Inv-loop μ-loop (λ c κs. search needs) loop-holds sub-make-stretch make-stretch-requires add-made add-looks (λ c κs. search needs)
-    (λ c κs. search needs) same-length same-length-2 returns loop-less loop-again)
+    (tie.spec Inv-loop μ-loop (λ c κs. search needs) loop-holds make-stretch-requires (λ c κs. search needs) add-looks (λ c κs. search needs)
+    (λ c. omega (arith, c .before .before .before .before .before .before .before .before .before .before .before .before .before .loop .inv .0, c .before .before .before .before .before .before .before .before .before .make-stretch .ensures .within)) (λ c κs. search needs) same-length same-length-2 returns loop-less loop-again)
