@@ -16,8 +16,8 @@ use crate::status::waits_at;
 use crate::status::waits_otherwise;
 
 impl Machine {
-    // Of a thread that waits: whether all that wait with it name its count, and are fewer. It makes its own pass, so that `disputed`
-    // and `waiting` are called at a meeting alone and stand in its code.
+    // Of a thread that waits: whether all that wait with it name its count, and are fewer. It makes its own pass, so that `others`
+    // is called at a meeting alone and stands in its code.
     fn fewer_agree(self, thread: usize, id: u8, count: u8) -> bool
         ensures { λ r. ⌜ r ≡ (not (disputed self thread id count) && ltb (waiting self id) count) ⌝ }
     {
