@@ -5,8 +5,8 @@
  * otherwise. (korvammel_name answers a length.)
  *
  * The library is for x86-64 Linux, in C's own calling convention there. A call needs at most 3,328 bytes of stack (on words; the
- * others under 1,536). It uses the red zone, the 128 bytes below the stack pointer, which are among these: an interrupt that comes in
- * on the same stack has to leave them alone. Of the C library it calls memset.
+ * others under 1,536), but for korvammel_assemble, which says its own. It uses the red zone, the 128 bytes below the stack pointer,
+ * which are among these: an interrupt that comes in on the same stack has to leave them alone. Of the C library it calls memset.
  *
  * Float words (R opcodes 33 to 42) are worked out by the processor's float unit: korvammel_run has to be called with the default
  * floating-point environment, rounding to nearest, with no flush to zero and no denormals as zero (MXCSR as the system sets it). A
@@ -29,12 +29,16 @@
  *       takes either
  *   10  a record of the image (or of a machine record) has a wrong mark, or a thread, register or block number out of place
  *   11  the old form is asked for, a count of turns is not 0, and dropping the counts is not allowed
+ *   12  a source is too long, a line of it too long or malformed, or its instruction has no word
+ *   13  a label of a source is unknown, repeated or the 257th
+ *   14  parentheses in a source are too deep, or a number or sum too large
  *   15  a line of Intel HEX is no record of type 00, 01 or 04, or its checksum is wrong
  *   16  a record of Intel HEX begins before the end of the last one, or goes past FFFF
  *   17  Intel HEX has no end record, or something behind it
  *   18  the buffer for words or text is too short
  *
- * They are checked in the order 1, 2, 3, 5, 9, 10, 4, 11, and the first that applies is given. The calls on Intel HEX say their own.
+ * They are checked in the order 1, 2, 3, 5, 9, 10, 4, 11, and the first that applies is given. The calls on Intel HEX and on text say
+ * their own.
  */
 #ifndef KORVAMMEL_H
 #define KORVAMMEL_H
@@ -122,6 +126,19 @@ uint32_t korvammel_hex_import(const uint8_t *text, size_t text_length, uint32_t 
  * start of `text`, leaves what stands behind it, and puts its length, KORVAMMEL_HEX(program_length), into `length`. Answers 0, 1, then
  * 18. Importing the text gives the program again. */
 uint32_t korvammel_hex_export(const uint32_t *program, size_t program_length, uint8_t *text, size_t text_length, size_t *length);
+
+/* Numbers that an assembly reports: how many words, and the line that is refused. */
+#define KORVAMMEL_ASSEMBLE_RESULT 2
+
+/* Assembles a program that is written as text (docs/WRITING-PROGRAMS.md), a source of any length: puts its words at the start of `program`,
+ * and leaves what stands behind them. 16,384 words are always room enough. Answers 0; 12 for a source of more than 65,536 bytes; then 12
+ * for the first line that is too long or malformed; then 13 for the first with a label that is unknown, repeated or the 257th; then, for
+ * the first of these, 14 where parentheses are too deep or a number or sum too large, else 12 where the instruction has no word; then 1;
+ * then 18. `result` becomes the number of words and 0, or, where it answers a number of the table, 0 and the line, counted from 1, or 0
+ * for 1, 18 and a source that is too long; `program` is then left.
+ * It needs up to 221,184 bytes of stack, for a table of the source's labels. */
+uint32_t korvammel_assemble(const uint8_t *source, size_t source_length, uint32_t *program, size_t program_length,
+                            size_t result[KORVAMMEL_ASSEMBLE_RESULT]);
 
 /* Starts the threads of a mask, bit t for thread t: clears the registers, sets every s59 to 0xFFFF, and writes the record. Answers 0,
  * 2 or 5; where it answers 2 or 5 it writes a record with every number 0, and leaves the registers. */

@@ -7,10 +7,11 @@
 
 #include "korvammel.h"
 
-enum { START, RUN, WRITE, READ, WRITE_OLD, WORDS, EXPORT, IMPORT, EMPTY, CALLS };
-static const char *const names[CALLS] = {"start", "run", "image_write", "image_read", "image_write_old", "words", "hex_export", "hex_import"};
+enum { START, RUN, WRITE, READ, WRITE_OLD, WORDS, EXPORT, IMPORT, ASSEMBLE, EMPTY, CALLS };
+static const char *const names[CALLS] = {"start", "run", "image_write", "image_read", "image_write_old",
+                                         "words", "hex_export", "hex_import", "assemble"};
 
-static uint8_t stack[65536];
+static uint8_t stack[1 << 20];
 static ucontext_t here, there;
 static int call;
 
@@ -18,6 +19,10 @@ static uint32_t program[16384], registers[KORVAMMEL_REGISTERS];
 static size_t words;
 static uint8_t text[KORVAMMEL_HEX(16384)];
 static size_t length;
+// A source that goes as deep as a line of 120 bytes can: what isn't closed is read to its end all the same.
+static const uint8_t source[] = "jmp "
+                                "(((((((((((((((((((((((((((((((((((((((((((((((((((((((((("
+                                "((((((((((((((((((((((((((((((((((((((((((((((((((((((((((";
 static uint8_t memory[128], record[KORVAMMEL_RECORD], image[KORVAMMEL_IMAGE(128)], old[KORVAMMEL_OLD_IMAGE(128)];
 
 // Every word of a program read, written again and named.
@@ -43,6 +48,7 @@ static void make(void) {
     case WORDS: take_words(); break;
     case EXPORT: korvammel_hex_export(program, words, text, sizeof text, &length); break;
     case IMPORT: korvammel_hex_import(text, length, program, 16384, found); break;
+    case ASSEMBLE: korvammel_assemble(source, sizeof source - 1, program, 16384, found); break;
     default: break;
     }
 }

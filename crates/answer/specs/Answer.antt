@@ -51,6 +51,18 @@ bad-image = 10
 abbrev pub counts-lost : ℕ
 counts-lost = 11
 
+-- T-01: "first 12 at line 0, source too long; then 12 too long or malformed", "else 12 without a word"
+abbrev pub bad-source : ℕ
+bad-source = 12
+
+-- "13 label unknown, repeated or the 257th"
+abbrev pub bad-label : ℕ
+bad-label = 13
+
+-- "14 too deep or a number or sum too large"
+abbrev pub too-large : ℕ
+too-large = 14
+
 -- T-06: "15 bad record or checksum"
 abbrev pub bad-hex-record : ℕ
 bad-hex-record = 15
@@ -63,6 +75,6 @@ bad-hex-order = 16
 abbrev pub bad-hex-end : ℕ
 bad-hex-end = 17
 
--- T-06: "18 buffer too short, on export too"
+-- T-01: "18 last, word buffer too short"; T-06: "18 buffer too short, on export too"
 abbrev pub short-buffer : ℕ
 short-buffer = 18

@@ -31,6 +31,11 @@ fn meaning(number: u8) {
         11 => say(
             b"the old form holds no counts of turns, and one is not 0: --drop leaves them out",
         ),
+        12 => say(
+            b"the source or the line is too long or malformed, or the instruction has no word",
+        ),
+        13 => say(b"a label is unknown, repeated or the 257th"),
+        14 => say(b"parentheses are more than 8 deep, or a number or sum is past 2,147,483,648"),
         15 => say(b"it is no record, or its checksum is wrong"),
         16 => say(b"its addresses begin before the end of the last record, or go past FFFF"),
         17 => say(b"there is no end record, or something behind it"),

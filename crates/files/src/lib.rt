@@ -13,3 +13,4 @@ pub use reading::read_stream;
 pub use writing::write_file;
 pub use writing::write_stream;
 pub use writing::write_synced;
+pub use writing::write_words;

@@ -1,6 +1,8 @@
 // Bytes written to a stream or a file, all of them; what could not be written is complained of.
 use crate::complaints::complain;
 use crate::complaints::fail;
+use libc::STDOUT_FILENO;
+use program::PROGRAM_BYTES;
 use text::put_text;
 
 // Writes to a stream, and answers whether all was written; `failure` is what a complaint says can't be done.
@@ -12,7 +14,14 @@ pub fn write_stream(fd: i32, failure: &[u8], bytes: &[u8]) -> bool {
     written
 }
 
-// The same, and waits until the bytes have reached their device.
+// Writes the bytes of a program's words to standard output.
+pub fn write_words(words: &[u32]) {
+    let mut bytes = [0u8; PROGRAM_BYTES];
+    let length = program::bytes(words, &mut bytes);
+    write_stream(STDOUT_FILENO, b"write the program", &bytes[..length]);
+}
+
+// Writes to a stream, and waits until the bytes have reached their device.
 pub fn write_synced(fd: i32, failure: &[u8], bytes: &[u8]) -> bool {
     let written = io::write_all(fd, bytes) && libc::fsync(fd) == 0;
     if !written {

@@ -2,7 +2,6 @@
 use answer::PROGRAM_WORDS;
 use hex::Imported;
 use libc::STDIN_FILENO;
-use libc::STDOUT_FILENO;
 use program::PROGRAM_BYTES;
 
 // The most bytes of a file that are taken: 16 for each byte of the longest program, where a record of one byte and its CR LF are 15. The
@@ -11,19 +10,12 @@ const LONGEST: usize = 16 * PROGRAM_BYTES;
 
 const ROOM: usize = LONGEST + 1;
 
-// Writes the bytes of a program's words.
-fn write_words(words: &[u32]) {
-    let mut bytes = [0u8; PROGRAM_BYTES];
-    let length = program::bytes(words, &mut bytes);
-    files::write_stream(STDOUT_FILENO, b"write the program", &bytes[..length]);
-}
-
 fn import(text: &[u8]) {
     let mut words = [0u32; PROGRAM_WORDS];
     let answer = hex::import(text, &mut words);
     match answer {
         Imported::Refused(number, line) => files::refuse_at(line, number),
-        Imported::Words(count) => write_words(&words[..count]),
+        Imported::Words(count) => files::write_words(&words[..count]),
     }
 }
 

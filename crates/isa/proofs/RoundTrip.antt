@@ -36,7 +36,7 @@ not-one : (n : ℕ) → n < 2 → eqb n 1 ≡ false → n ≡ 0
 not-one n l e = let f = eqb-false n 1 e in omega arith
 
 -- The word of an instruction is read as it, by format.
-write-read : (i : Instruction) (w : ℕ) → write i ≡ given w → read w ≡ given i
+pub write-read : (i : Instruction) (w : ℕ) → write i ≡ given w → read w ≡ given i
 unfolding write writeR writeI writeMovei writeJ writeC writeM read readR readI readMovei readJ readC readM asR asI asMovei asJ asC asM listed
 write-read (R op flags d a b) w e =
     let l = encoded-is layoutR refl (0b00 ∷ rowR op .opcode ∷ d ∷ a ∷ b ∷ 0 ∷ 0 ∷ flags ∷ 0 ∷ []) refl _ w e in

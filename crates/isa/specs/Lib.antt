@@ -7,6 +7,8 @@ pub mod Table
 pub mod Found
 pub mod Number
 pub mod Rule
+pub mod Template
+pub mod Operands
 pub mod Read
 pub mod Write
 pub mod Claims

@@ -38,6 +38,14 @@ flagsClass GetLane = 0b01 ∷ []
 abbrev pub flagsI : Operation → List ℕ
 flagsI op = cond (ltb (rowR op .opcode) (2 ^ 5)) (flagsClass op) []
 
+-- an operation that I has too: one with flags there
+abbrev pub anyFlags : List ℕ → Bool
+anyFlags [] = false
+anyFlags (f ∷ fs) = true
+
+abbrev pub hasImmediate : Operation → Bool
+hasImmediate op = anyFlags (flagsI op)
+
 -- "s63 the program counter": named here too, since this crate does not see `machine`, where the register file is
 abbrev pub programCounterRegister : ℕ
 programCounterRegister = 63

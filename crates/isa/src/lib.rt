@@ -2,9 +2,11 @@
 mod field;
 mod instruction;
 mod opcode;
+mod operands;
 mod pack;
 mod read;
 mod rule;
+mod template;
 mod write;
 
 pub use field::movei_number;
@@ -22,5 +24,10 @@ pub use instruction::StoreOp;
 pub use instruction::UnaryOp;
 pub use instruction::Writing;
 pub use opcode::opcode_of;
+pub use operands::Slot;
+pub use operands::Slots;
+pub use operands::slots_of;
 pub use read::read_word;
+pub use template::Template;
+pub use template::template_of;
 pub use write::write_word;

@@ -6,7 +6,7 @@ use crate::instruction::Operation;
 use crate::instruction::UnaryOp;
 use crate::opcode::r_opcode;
 ghost use mathlib.Core.Path.{_≡_};
-ghost use Rattle.isa.specs.Rule.{flagsUnary, flagsR, flagsClass, flagsI, destination, operandB, allowsR, allowsI, allowsMovei, allowsJ, allowsC, allowsM};
+ghost use Rattle.isa.specs.Rule.{flagsUnary, flagsR, flagsClass, flagsI, hasImmediate, destination, operandB, allowsR, allowsI, allowsMovei, allowsJ, allowsC, allowsM};
 ghost use Rattle.isa.specs.Test.{setOf, inSet};
 
 // The vector flags that a word of an operation may have, as a set: bit f for flags f. So the compiler looks them up, and does not jump.
@@ -57,6 +57,13 @@ fn i_set(op: Operation) -> u32
     0
 }
 
+// Whether I has words of an operation of R.
+pub fn has_immediate(op: Operation) -> bool
+    ensures { λ r. ⌜ r ≡ hasImmediate op ⌝ }
+{
+    i_set(op) != 0
+}
+
 fn is_in(set: u32, flags: u32) -> bool
     ensures { λ r. ⌜ r ≡ inSet set flags ⌝ }
 {
@@ -72,7 +79,8 @@ fn is_destination(vector: bool, d: u32) -> bool
     vector | (d != PROGRAM_COUNTER)
 }
 
-fn operand_b(op: Operation, b: u32) -> bool
+// Whether an operation takes a number as its b field: a unary one has no operand there.
+pub fn operand_b(op: Operation, b: u32) -> bool
     ensures { λ r. ⌜ r ≡ operandB op b ⌝ }
 {
     match op {

@@ -1,12 +1,12 @@
 -- Names: an operation's name stands in the table's row of its opcode, and no instruction that has a word has a name of more than eight bytes.
-use Prim.Native.Nat.{ℕ, suc, _+_, _-_, _^_, _<_, _≤_}
+use Prim.Native.Nat.{ℕ, zero, suc, _+_, _-_, _^_, _<_, _≤_}
 use mathlib.Core.Bool.{Bool, true, false, cond, not, _&&_, _||_, false≢true}
 use mathlib.Core.List.{List, [], _∷_, _++_, append-assoc}
 use mathlib.Core.Option.{some}
 use mathlib.Core.Path.{_≡_, refl, ap, subst, _∙_}
 use native.Mathlib.Omega.{arith}
-use borrow.Author.Tests.{eq-eqb, ltb-true}
-use lib.Dec.{eqb, ltb}
+use borrow.Author.Tests.{eq-eqb, ltb-true, leb-true}
+use lib.Dec.{eqb, leb, ltb}
 use lib.ListN.{length, replicate, set, getD, drop, length-append}
 use lib.Seq.{set-append-seam, drop-cons}
 use Rattle.answer.specs.Answer.{given}
@@ -25,7 +25,7 @@ use Rattle.isa.specs.declared.instruction.JumpOp.{JumpOp}
 use Rattle.isa.specs.declared.instruction.ControlOp.{ControlOp}
 use Rattle.isa.specs.declared.instruction.MemoryOp.{MemoryOp}
 use Rattle.names.specs.Name.{nameOf, padded, spelled, extended}
-use Rattle.names.specs.Rows.{rowsFor, rows, named}
+use Rattle.names.specs.Rows.{rowsFor, rows, noRow, rowAt, named}
 use Rattle.names.specs.declared.name.NameRow as names
 
 -- rows of another format are passed over
@@ -162,6 +162,17 @@ fits-word (Movei op flag d immediate) w e = let h = below tableMovei finds-Movei
 fits-word (J op register offset) w e = let h = below tableJ finds-J 9 op refl in omega arith
 fits-word (C op first second) w e = let h = below tableC finds-C 9 op refl in omega arith
 fits-word (M op register base offset) w e = let h = below tableM finds-M 9 op refl in omega arith
+
+-- every row's name has room in sixteen bytes, and so has that of no format
+at-row : (p : names.NameRow → Bool) (rs : List names.NameRow) (k : ℕ) (d : names.NameRow) → every p rs ≡ true → p d ≡ true → p (getD rs k d) ≡ true
+unfolding every
+at-row p [] k d t e = e
+at-row p (r ∷ rs) zero d t e = and-left (p r) (every p rs) t
+at-row p (r ∷ rs) (suc k) d t e = at-row p rs k d (and-right (p r) (every p rs) t) e
+
+pub room-at : (k : ℕ) → rowAt k .2 ≤ 16
+unfolding every rows bytes
+room-at k = leb-true _ _ (at-row (λ r. leb (r .2) 16) rows k noRow refl refl)
 
 -- a byte put right behind a padded text makes it longer
 pub one-more : (n : ℕ) (t : List ℕ) (b : ℕ) → length t < n → set (padded n t) (length t) b ≡ padded n (t ++ b ∷ [])

@@ -3,7 +3,7 @@ use Prim.Native.Nat.{ℕ}
 use mathlib.Core.Bool.{_&&_, cond}
 use mathlib.Core.List.{List, [], _∷_, _++_}
 use lib.Dec.{eqb}
-use lib.ListN.{length}
+use lib.ListN.{length, getD}
 use Rattle.isa.specs.Table.{Table, tableR, tableMovei, tableJ, tableC, tableM}
 use Rattle.names.specs.Name.{padded, spelled}
 use Rattle.names.specs.declared.name.Name.{Name}
@@ -20,6 +20,13 @@ rowsOf f t = rowsFor f t (t .operations)
 -- the formats by their numbers: 0 R, and I with it; 2 MOVEI, 3 J, 4 C, 5 M
 unfoldable pub rows : List NameRow
 rows = rowsOf 0 tableR ++ rowsOf 2 tableMovei ++ rowsOf 3 tableJ ++ rowsOf 4 tableC ++ rowsOf 5 tableM
+
+-- the row at a place; behind the last row one without a name
+abbrev pub noRow : NameRow
+noRow = (0, 0, 0, [])
+
+abbrev pub rowAt : ℕ → NameRow
+rowAt k = getD rows k noRow
 
 -- the name in the first row of a format and an opcode
 unfoldable pub named : List NameRow → ℕ → ℕ → Name

@@ -12,9 +12,10 @@ pub struct Name {
 }
 
 // A row of the table: the number of the format, the opcode, and the name's length and bytes.
-struct NameRow(u8, u8, usize, [u8; 16]);
+pub struct NameRow(pub u8, pub u8, pub usize, pub [u8; 16]);
 
-const COUNT: usize = 61;
+// How many rows there are.
+pub const COUNT: usize = 61;
 
 const ROWS: [NameRow; COUNT] = [
     // R, and I with a letter more
@@ -85,7 +86,8 @@ const ROWS: [NameRow; COUNT] = [
     NameRow(5, 40, 6, *b"storev\0\0\0\0\0\0\0\0\0\0"),
 ];
 
-fn table() -> [NameRow; COUNT]
+// The rows, whose names have room in their bytes.
+pub fn table() -> [NameRow; COUNT]
     ensures { λ r. ⌜ r ≡ rows ⌝ }
 {
     ROWS

@@ -13,6 +13,7 @@ extern "C" {
     fn korvammel_name(instruction: *const u32, name: *mut u8) -> usize;
     fn korvammel_hex_import(text: *const u8, text_length: usize, program: *mut u32, program_length: usize, result: *mut usize) -> u32;
     fn korvammel_hex_export(program: *const u32, program_length: usize, text: *mut u8, text_length: usize, length: *mut usize) -> u32;
+    fn korvammel_assemble(source: *const u8, source_length: usize, program: *mut u32, program_length: usize, result: *mut usize) -> u32;
     fn korvammel_start(mask: u32, registers: *mut u32, registers_length: usize, record: *mut u8) -> u32;
     fn korvammel_run(
         program: *const u32,
@@ -81,6 +82,10 @@ pub fn hex_import(text: &[u8], program: &mut [u32], result: &mut [usize; 2]) -> 
 
 pub fn hex_export(program: &[u32], text: &mut [u8], length: &mut usize) -> u32 {
     unsafe { korvammel_hex_export(program.as_ptr(), program.len(), text.as_mut_ptr(), text.len(), length) }
+}
+
+pub fn assemble(source: &[u8], program: &mut [u32], result: &mut [usize; 2]) -> u32 {
+    unsafe { korvammel_assemble(source.as_ptr(), source.len(), program.as_mut_ptr(), program.len(), result.as_mut_ptr()) }
 }
 
 pub fn start(mask: u32, registers: &mut [u32], record: &mut Opening) -> u32 {

@@ -7,6 +7,7 @@ mod images;
 mod library;
 mod records;
 mod runs;
+mod sources;
 mod words;
 
 use compare::report::{compare, repeated, Reach, Tally, VECTORS};
@@ -27,6 +28,9 @@ fn main() {
     let verdicts = records::Verdicts::new();
     let refusals = |seed, tally: &mut Tally| runs::refusals(seed, &verdicts, tally);
     let images = |seed, tally: &mut Tally| images::both_ways(seed, &verdicts, tally);
+    let (names, edges) = (sources::names(), reference::sources::all());
+    let assembling = |seed, tally: &mut Tally| sources::assembling(seed, &names, tally);
+    let boundary = |seed: u64, tally: &mut Tally| sources::boundary(&edges[seed as usize], &names, tally);
     let parts = [
         Part {
             name: "words",
@@ -91,6 +95,20 @@ fn main() {
             seeds: repeated(20_000),
             reach: Reach::Kinds(&hex::SIZES),
             case: &hex::exporting,
+        },
+        Part {
+            name: "sources",
+            title: "programs as text assembled",
+            seeds: repeated(100_000),
+            reach: Reach::Kinds(&sources::KINDS),
+            case: &assembling,
+        },
+        Part {
+            name: "source-edges",
+            title: "texts at their boundaries",
+            seeds: 0..=edges.len() as u64 - 1,
+            reach: Reach::Anything,
+            case: &boundary,
         },
         Part {
             name: "images",
