@@ -1,23 +1,22 @@
-; The spring night of the clock change, for two threads. Thread 0 waits for half past two, a minute that
-; the clock leaves out. Thread 1 switches on thirteen relays, for eleven stairs and two ramps.
+; The spring night of the clock change, for the night box. Thread 0 waits for half past two, a minute that the
+; clock leaves out. Thread 1 starts the stairs at three: thirteen relays, for eleven stairs and two ramps.
 movei s2,2              ; the control register that holds the thread's number
 readcr s1,s2
-bnez s1,relays          ; thread 1
+beqz s1,wait            ; thread 0
+cmpeqi s5,s1,1
+bnez s5,stairs          ; thread 1
+end                     ; the others have nothing to do
 
-movei s3,120+30         ; half past two, in minutes
 wait:
-load32 s4,(s0)          ; the clock, the first word of memory
-cmpeq s5,s4,s3
+load32 s4,(s0)          ; the minute of the day, the first word of memory
+cmpeqi s5,s4,120+30     ; half past two
 beqz s5,wait
 end
 
-relays:
-movei s3,64             ; where the relays' bytes begin
-movei s4,64+11+2        ; the place behind the last
-movei s5,1              ; on
-next:
-store8 s5,(s3)          ; a relay is switched on
-addi s3,s3,1
-cmpult s6,s3,s4         ; is it one of them?
-bnez s6,next
+stairs:
+load32 s4,(s0)
+cmpulti s5,s4,180       ; three o'clock
+bnez s5,stairs
+movei s3,0x1FFF         ; thirteen relays
+store32 s3,64(s0)       ; the word that the box takes them from
 end

@@ -8,11 +8,11 @@
  * others under 1,536), but for korvammel_assemble, which says its own. It uses the red zone, the 128 bytes below the stack pointer,
  * which are among these: an interrupt that comes in on the same stack has to leave them alone. Of the C library it calls memset.
  *
- * Float words (R opcodes 33 to 42) are worked out by the processor's float unit: korvammel_run has to be called with the default
- * floating-point environment, rounding to nearest, with no flush to zero and no denormals as zero (MXCSR as the system sets it). A
- * program that is linked with -ffast-math (or -Ofast, -funsafe-math-optimizations) does not have it: what GCC links in then sets
- * both at the start. Nor has one that calls fesetround or writes MXCSR and does not set it back. Floating-point exceptions have to stay
- * masked, as they are there: a run sets the flags of that environment.
+ * Float words (R opcodes 33 to 42) are worked out by the processor's float unit: korvammel_run and korvammel_night_minute have to be
+ * called with the default floating-point environment, rounding to nearest, with no flush to zero and no denormals as zero (MXCSR as the
+ * system sets it). A program that is linked with -ffast-math (or -Ofast, -funsafe-math-optimizations) does not have it: what GCC links
+ * in then sets both at the start. Nor has one that calls fesetround or writes MXCSR and does not set it back. Floating-point exceptions
+ * have to stay masked, as they are there: a run sets the flags of that environment.
  *
  * A pointer is never null, and is aligned for its type. It points to an array of the length that stands beside it, or of the length
  * in brackets. An array that a call writes shares no byte with another that the call takes.
@@ -36,9 +36,11 @@
  *   16  a record of Intel HEX begins before the end of the last one, or goes past FFFF
  *   17  Intel HEX has no end record, or something behind it
  *   18  the buffer for words or text is too short
+ *   19  the minute, or the one kept from the last call, is above 1439
+ *   20  the memory has fewer than 128 bytes
  *
- * They are checked in the order 1, 2, 3, 5, 9, 10, 4, 11, and the first that applies is given. The calls on Intel HEX and on text say
- * their own.
+ * They are checked in the order 1, 2, 3, 5, 9, 10, 4, 11, and the first that applies is given. The calls on Intel HEX, on text and on the
+ * night box say their own.
  */
 #ifndef KORVAMMEL_H
 #define KORVAMMEL_H
@@ -163,6 +165,23 @@ uint32_t korvammel_start(uint32_t mask, uint32_t *registers, size_t registers_le
  * the table, every number of `result` becomes 0 (refused, no issue, no look), and all else is left. */
 uint32_t korvammel_run(const uint32_t *program, size_t program_length, uint32_t *registers, size_t registers_length, uint8_t *memory,
                        size_t memory_length, uint8_t record[KORVAMMEL_RECORD], uint32_t budget, uint32_t result[KORVAMMEL_RESULT]);
+
+/* Numbers that the night box keeps from call to call: { 0, any } before the first, and then { 1, the minute } of the last call that was
+ * not refused. Any first number but 0 says that the second is a minute. */
+#define KORVAMMEL_KEPT 2
+
+/* Numbers that a minute reports: the minutes skipped since the last one, and the relays, 0 to 65535. */
+#define KORVAMMEL_NIGHT_RESULT 2
+
+/* One local minute of the night box. Puts `minute`, 0 to 1439, into bytes 0 to 3 of memory and the minutes skipped since the last call into
+ * bytes 4 to 7, runs 4,096 issues, and takes the relays from the low 16 bits of the word at byte 64. Skipped are the minutes strictly
+ * between the kept one and this, forward round midnight; none where nothing is kept, the minute is the same, or `fall_back` is not 0: any
+ * number but 0 marks that the clock fell back in autumn. Leaves the registers, the memory and the record as the issues made them, and puts
+ * the minute into `kept` and what it reports into `result`. Answers 0; 20, 19, 1, 2, 3, 10 or 4, in this order; where it answers a
+ * number of the table, `result` becomes 0, 0, and all else is left, `kept` too. */
+uint32_t korvammel_night_minute(const uint32_t *program, size_t program_length, uint32_t *registers, size_t registers_length,
+                                uint8_t *memory, size_t memory_length, uint8_t record[KORVAMMEL_RECORD], uint32_t kept[KORVAMMEL_KEPT],
+                                uint32_t minute, uint32_t fall_back, uint32_t result[KORVAMMEL_NIGHT_RESULT]);
 
 /* Writes a machine's image: every byte of it. Answers 0, 2, 3, 9, 10 or 4. */
 uint32_t korvammel_image_write(const uint32_t *registers, size_t registers_length, const uint8_t *memory, size_t memory_length,

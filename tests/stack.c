@@ -7,9 +7,9 @@
 
 #include "korvammel.h"
 
-enum { START, RUN, WRITE, READ, WRITE_OLD, WORDS, EXPORT, IMPORT, ASSEMBLE, EMPTY, CALLS };
+enum { START, RUN, WRITE, READ, WRITE_OLD, WORDS, EXPORT, IMPORT, ASSEMBLE, NIGHT, EMPTY, CALLS };
 static const char *const names[CALLS] = {"start", "run", "image_write", "image_read", "image_write_old",
-                                         "words", "hex_export", "hex_import", "assemble"};
+                                         "words", "hex_export", "hex_import", "assemble", "night_minute"};
 
 static uint8_t stack[1 << 20];
 static ucontext_t here, there;
@@ -39,6 +39,7 @@ static void take_words(void) {
 static void make(void) {
     uint32_t result[KORVAMMEL_RESULT];
     size_t found[KORVAMMEL_HEX_RESULT];
+    uint32_t kept[KORVAMMEL_KEPT] = {1, 119}, reported[KORVAMMEL_NIGHT_RESULT];
     switch (call) {
     case START: korvammel_start(3, registers, KORVAMMEL_REGISTERS, record); break;
     case RUN: korvammel_run(program, words, registers, KORVAMMEL_REGISTERS, memory, sizeof memory, record, 1000, result); break;
@@ -49,6 +50,9 @@ static void make(void) {
     case EXPORT: korvammel_hex_export(program, words, text, sizeof text, &length); break;
     case IMPORT: korvammel_hex_import(text, length, program, 16384, found); break;
     case ASSEMBLE: korvammel_assemble(source, sizeof source - 1, program, 16384, found); break;
+    case NIGHT:
+        korvammel_night_minute(program, words, registers, KORVAMMEL_REGISTERS, memory, sizeof memory, record, kept, 180, 0, reported);
+        break;
     default: break;
     }
 }

@@ -7,6 +7,7 @@ pub mod hex;
 pub mod image;
 pub mod listing;
 pub mod machine;
+pub mod night;
 pub mod run;
 pub mod sources;
 pub mod word;

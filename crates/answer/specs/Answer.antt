@@ -78,3 +78,11 @@ bad-hex-end = 17
 -- T-01: "18 last, word buffer too short"; T-06: "18 buffer too short, on export too"
 abbrev pub short-buffer : ℕ
 short-buffer = 18
+
+-- T-14: "19 minute now or kept from the last call above 1439, or a line that is no such number"
+abbrev pub bad-minute : ℕ
+bad-minute = 19
+
+-- "20 memory under 128 bytes"
+abbrev pub small-memory : ℕ
+small-memory = 20

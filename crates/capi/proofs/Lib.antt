@@ -1,5 +1,5 @@
 -- The laws that several proofs cite.
 mod Handed
-mod Verdicts
+pub mod Verdicts
 mod Writing
 pub mod Demand

@@ -15,6 +15,7 @@ pub use Rattle.interpreter.proofs.Runs.{
   refused-looks,
 }
 pub use Rattle.interpreter.proofs.Endings.{ends-by-record}
+pub use Rattle.interpreter.proofs.Calls.{runs-report, issues-in-order}
 pub use Rattle.interpreter.proofs.Fairness.{some-enabled, eight-at-most, turns-fair, demand}
 pub use Rattle.interpreter.proofs.Turns.{turns-counted}
 pub use Rattle.interpreter.proofs.Figures.{figures-hold}

@@ -22,7 +22,8 @@ use Rattle.interpreter.specs.Choosing.{Issue, ifChosen, issued, issues, 
 use Rattle.interpreter.specs.Claims.{SomeEnabled, EightAtMost, Begun, RecordHandedOn, issuesOf, TurnsFair}
 use Rattle.interpreter.specs.Demand.{Call, Session, written, Reports, isEnabled, Fair, DemandHolds}
 use Rattle.answer.specs.Refusal.{refusedOr}
-use Rattle.interpreter.specs.Run.{Outcome, number, runIssues, runReached, run}
+use Rattle.interpreter.specs.Run.{number, runIssues, runReached}
+use Rattle.interpreter.proofs.Calls.{runs-report}
 use Rattle.interpreter.specs.Types.{Machine, Choice, Chosen, NoneRunning}
 use Rattle.interpreter.proofs.Issuing.{chosen-thread, issued-sound, issued-well-formed, reached-nothing, reached-one-more}
 use Rattle.interpreter.proofs.RoundRobin.{distance, distance-range, distance-at, distance-of, some-counted, all-counted, IssueInTurn, InTurns, row-after, row-front, within, share, even}
@@ -148,13 +149,10 @@ begun-issues (c ∷ cs) s =
     ap (λ is. runIssues (c .program) (c .budget) s ++ is) (begun-issues cs (runReached (c .program) (c .budget) s))
 
 reports : (calls : List Call) (s : State) → Session calls s → Reports calls s
-unfolding run
 reports [] s k = tt
 reports (c ∷ cs) s k =
-    let left : c .outcome .left ≡ runReached (c .program) (c .budget) s = ap (λ (o : Outcome). o .left) (k .0) in (
-      record { issues = ap (λ (o : Outcome). o .issues) (k .0); answer = ap (λ (o : Outcome). o .answer) (k .0); left = left },
-      reports cs (runReached (c .program) (c .budget) s) (subst (Session cs) left (k .1)),
-    )
+    let r = runs-report c s (k .0) in
+    (r, reports cs (runReached (c .program) (c .budget) s) (subst (Session cs) (r .left) (k .1)))
 
 -- a number below 2 to the n has one of its n lowest bits set, unless it is 0
 set-bit : (n mask : ℕ) → 1 ≤ mask → mask < 2 ^ n → (t : ℕ) × (t < n) × (bit mask t ≡ 1)

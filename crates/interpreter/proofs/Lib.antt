@@ -4,6 +4,7 @@ pub mod Refusals
 pub mod Issuing
 pub mod Looks
 pub mod RoundRobin
+pub mod Calls
 pub mod Fairness
 pub mod Runs
 pub mod Endings

@@ -14,8 +14,8 @@ use Rattle.machine.specs.Scheduler.{runs, waits}
 use Rattle.machine.specs.WellFormed.{wellFormed}
 use Rattle.interpreter.specs.Answer.{Ending, stopped, stuck, spent}
 use Rattle.interpreter.specs.Choosing.{Issue, look}
-use Rattle.interpreter.specs.Demand.{Call, Session, written, made, Fair, enabledThreads}
-use Rattle.interpreter.specs.Run.{number, runIssues, runReached, runAnswer, runLooks}
+use Rattle.interpreter.specs.Demand.{Call, Session, written, Reported, made, Fair, enabledThreads}
+use Rattle.interpreter.specs.Run.{number, runIssues, runReached, runAnswer, runLooks, run}
 use Rattle.interpreter.specs.Start.{start}
 use Rattle.interpreter.specs.Types.{Machine}
 
@@ -40,6 +40,10 @@ abbrev pub StartsUncounted : Type 0
 StartsUncounted = (mask : ℕ) (regs : List ℕ) (t : ℕ) → turnsAt (start mask regs .machine) t ≡ 0
 
 -- A run of a program p, with a budget b, from a state s.
+
+-- what `run` says of a call, part by part: whatever the record
+abbrev pub RunsReport : Type 0
+RunsReport = (c : Call) (s : State) → c .outcome ≡ run (c .program) (c .budget) s → Reported c s
 
 -- a well-formed record stays so
 abbrev pub StaysWellFormed : Type 0
@@ -153,6 +157,11 @@ RecordHandedOn (r ∷ rs) m = (r .from .machine ≡ m) × RecordHandedOn rs (run
 unfoldable pub issuesOf : List Begun → List Issue
 issuesOf [] = []
 issuesOf (r ∷ rs) = runIssues (r .program) (r .budget) (r .from) ++ issuesOf rs
+
+-- the same for who does not open the definition
+pub record IssuesInOrder : Type 0 where
+  pub empty : issuesOf [] ≡ []
+  pub first : (r : Begun) (rs : List Begun) → issuesOf (r ∷ rs) ≡ runIssues (r .program) (r .budget) (r .from) ++ issuesOf rs
 
 abbrev pub TurnsFair : Type 0
 TurnsFair = (rs : List Begun) (m : Machine) → wellFormed m ≡ true → RecordHandedOn rs m → Fair (issuesOf rs) (enabledThreads m)

@@ -9,9 +9,9 @@ use lib.ListN.{length}
 use Rattle.isa.specs.Text.{bytes}
 use Rattle.text.proofs.Lengths.{decimal-small, decimal-long-small}
 use Rattle.text.specs.Buffer.{wrote, writes}
-use Rattle.thread_lines.proofs.Lengths.{total, length-concat, threads-small}
-use Rattle.thread_lines.proofs.Parts.{puts-whole}
-use Rattle.thread_lines.specs.Text.{concat, putsAll}
+use Rattle.text.proofs.Parts.{puts-whole, total, length-concat}
+use Rattle.thread_lines.proofs.Lengths.{threads-small}
+use Rattle.text.specs.Parts.{concat, putsAll}
 use Rattle.report.specs.Report.{counted, bodyParts, looksParts}
 use Rattle.report.specs.Types.{Machine}
 

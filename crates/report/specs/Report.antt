@@ -6,7 +6,7 @@ use lib.Dec.{eqb}
 use Rattle.isa.specs.Text.{bytes}
 use Rattle.text.specs.Number.{decimal, decimalLong}
 use Rattle.thread_lines.specs.Lines.{threadParts}
-use Rattle.thread_lines.specs.Text.{concat}
+use Rattle.text.specs.Parts.{concat}
 use Rattle.report.specs.Types.{RunAnswer, Stopped, Stuck, Spent, RunRefused, Run, Machine}
 
 -- what is counted, behind the number

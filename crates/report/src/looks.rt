@@ -1,7 +1,7 @@
 // The line that says how many entries a run looked at.
 ghost use mathlib.Core.Path.{_≡_};
 ghost use Rattle.text.specs.Buffer.{wrote, writes};
-ghost use Rattle.thread_lines.specs.Text.{putsAll};
+ghost use Rattle.text.specs.Parts.{putsAll};
 ghost use Rattle.report.specs.Report.{looksParts, looksLine};
 use text::put_long;
 use text::put_text;

@@ -1,7 +1,7 @@
 // The whole text: how the run ended, then the lines of the threads.
 ghost use mathlib.Core.Path.{_≡_};
 ghost use Rattle.text.specs.Buffer.{wrote, puts, writes};
-ghost use Rattle.thread_lines.specs.Text.{putsAll};
+ghost use Rattle.text.specs.Parts.{putsAll};
 ghost use Rattle.report.specs.Report.{counted, bodyParts, report};
 use answer::REGISTER_WORDS;
 use interpreter::Run;

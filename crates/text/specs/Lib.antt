@@ -2,4 +2,5 @@
 pub mod Types
 pub mod Number
 pub mod Buffer
+pub mod Parts
 pub mod Argument

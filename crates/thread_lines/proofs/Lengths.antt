@@ -1,33 +1,20 @@
 -- How long the parts of a text can be.
-use Prim.Native.Nat.{ℕ, zero, suc, _+_, _*_, _≤_}
+use Prim.Native.Nat.{ℕ, zero, suc, _*_, _≤_}
 use mathlib.Core.Bool.{Bool, true, false, cond}
 use mathlib.Core.List.{List, [], _∷_, _++_}
-use mathlib.Core.Path.{_≡_, refl, _∙_, ap}
+use mathlib.Core.Path.{_≡_, refl}
 use native.Mathlib.Omega.{arith}
 use lib.Dec.{eqb, lit≤}
-use lib.ListN.{length, length-append}
+use lib.ListN.{length}
 use Rattle.isa.specs.Text.{bytes}
 use Rattle.text.proofs.Lengths.{decimal-small}
+use Rattle.text.proofs.Parts.{total, total-append}
 use Rattle.text.specs.Number.{decimal}
 use Rattle.machine.specs.Machine.{statusAt, turnsAt}
 use Rattle.machine.specs.Status.{isIdle}
 use Rattle.thread_lines.specs.Lines.{programCounter, reason, stateParts, turnsUnit, turnsParts, lineParts, linesParts, offPart, offParts, offLine, threadParts}
-use Rattle.thread_lines.specs.Text.{concat, counter}
+use Rattle.thread_lines.specs.Text.{counter}
 use Rattle.thread_lines.specs.Types.{Machine, Status, Idle, Running, Ended, Trapped, Waiting}
-
--- the bytes of all parts
-abbrev pub total : List (List ℕ) → ℕ
-total [] = 0
-total (part ∷ parts) = length part + total parts
-
-pub length-concat : (parts : List (List ℕ)) → length (concat parts) ≡ total parts
-unfolding concat
-length-concat [] = refl
-length-concat (part ∷ parts) = length-append part (concat parts) ∙ ap (λ (n : ℕ). length part + n) (length-concat parts)
-
-pub total-append : (parts more : List (List ℕ)) → total (parts ++ more) ≡ total parts + total more
-total-append [] more = omega arith
-total-append (part ∷ parts) more = omega (arith, total-append parts more)
 
 counter-length : (n : ℕ) → length (counter n) ≡ 8
 unfolding counter

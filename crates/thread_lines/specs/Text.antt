@@ -1,18 +1,7 @@
--- Text put together from parts.
+-- Numbers as the lines have them.
 use Prim.Native.Nat.{ℕ}
-use mathlib.Core.List.{List, [], _∷_, _++_}
-use Rattle.text.specs.Buffer.{Wrote, puts}
+use mathlib.Core.List.{List}
 use Rattle.text.specs.Number.{hex}
-
--- the parts, one behind the other
-unfoldable pub concat : List (List ℕ) → List ℕ
-concat [] = []
-concat (part ∷ parts) = part ++ concat parts
-
--- the parts put into a buffer, each where the last one ended
-abbrev pub putsAll : Wrote → List (List ℕ) → Wrote
-putsAll w [] = w
-putsAll w (part ∷ parts) = putsAll (puts w part) parts
 
 -- a program counter: eight upper-case hex digits, as in a listing
 unfoldable pub counter : ℕ → List ℕ

@@ -4,7 +4,7 @@ ghost use lib.ListN.{length};
 ghost use Rattle.answer.specs.Refusal.{registerWords};
 ghost use Rattle.text.specs.Buffer.{wrote};
 ghost use Rattle.thread_lines.specs.Lines.{linesParts, offParts, offLine, threadParts};
-ghost use Rattle.thread_lines.specs.Text.{putsAll};
+ghost use Rattle.text.specs.Parts.{putsAll};
 use crate::line::put_line;
 use crate::line::put_off;
 use answer::REGISTER_WORDS;

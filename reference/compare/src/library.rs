@@ -26,6 +26,19 @@ extern "C" {
         budget: u32,
         result: *mut u32,
     ) -> u32;
+    fn korvammel_night_minute(
+        program: *const u32,
+        program_length: usize,
+        registers: *mut u32,
+        registers_length: usize,
+        memory: *mut u8,
+        memory_length: usize,
+        record: *mut u8,
+        kept: *mut u32,
+        minute: u32,
+        fall_back: u32,
+        result: *mut u32,
+    ) -> u32;
     fn korvammel_image_write(
         registers: *const u32,
         registers_length: usize,
@@ -103,6 +116,34 @@ pub fn run(program: &[u32], registers: &mut [u32], memory: &mut [u8], record: &m
             memory.len(),
             record.as_mut_ptr(),
             budget,
+            result.as_mut_ptr(),
+        )
+    }
+}
+
+#[allow(clippy::too_many_arguments)]
+pub fn night_minute(
+    program: &[u32],
+    registers: &mut [u32],
+    memory: &mut [u8],
+    record: &mut Opening,
+    kept: &mut [u32; 2],
+    minute: u32,
+    fall_back: u32,
+    result: &mut [u32; 2],
+) -> u32 {
+    unsafe {
+        korvammel_night_minute(
+            program.as_ptr(),
+            program.len(),
+            registers.as_mut_ptr(),
+            registers.len(),
+            memory.as_mut_ptr(),
+            memory.len(),
+            record.as_mut_ptr(),
+            kept.as_mut_ptr(),
+            minute,
+            fall_back,
             result.as_mut_ptr(),
         )
     }

@@ -5,6 +5,8 @@
 mod hex;
 mod images;
 mod library;
+mod lines;
+mod night;
 mod records;
 mod runs;
 mod sources;
@@ -27,6 +29,7 @@ fn main() {
     std::panic::set_hook(Box::new(|_| {}));
     let verdicts = records::Verdicts::new();
     let refusals = |seed, tally: &mut Tally| runs::refusals(seed, &verdicts, tally);
+    let night = |seed, tally: &mut Tally| night::calls(seed, &verdicts, tally);
     let images = |seed, tally: &mut Tally| images::both_ways(seed, &verdicts, tally);
     let (names, edges) = (sources::names(), reference::sources::all());
     let assembling = |seed, tally: &mut Tally| sources::assembling(seed, &names, tally);
@@ -109,6 +112,27 @@ fn main() {
             seeds: 0..=edges.len() as u64 - 1,
             reach: Reach::Anything,
             case: &boundary,
+        },
+        Part {
+            name: "years",
+            title: "years of minutes",
+            seeds: repeated(6),
+            reach: Reach::Anything,
+            case: &night::years,
+        },
+        Part {
+            name: "night",
+            title: "minutes of the night box",
+            seeds: repeated(30_000),
+            reach: Reach::Kinds(&night::KINDS),
+            case: &night,
+        },
+        Part {
+            name: "lines",
+            title: "lines of the night box",
+            seeds: repeated(400),
+            reach: Reach::Kinds(&lines::KINDS),
+            case: &lines::printed,
         },
         Part {
             name: "images",

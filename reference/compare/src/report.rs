@@ -17,7 +17,7 @@ pub const VECTORS: [&str; 2] = ["vectors over two blocks", "vectors stored over 
 const KINDS: usize = 32;
 
 /// The numbers that calls give: those of documents 01 and 02 so far.
-const NUMBERS: usize = 19;
+const NUMBERS: usize = 21;
 
 /// The last vector that each thread stored in a run.
 pub type Stored = [Option<Moved>; 8];
@@ -196,10 +196,10 @@ impl Reach {
     }
 }
 
-/// The seeds of a random comparison: so many, or REPEAT times as many.
+/// The seeds of a random comparison: so many, or REPEAT times as many; at least one.
 pub fn repeated(seeds: u64) -> RangeInclusive<u64> {
     let repeat: f64 = std::env::var("REPEAT").map_or(1.0, |x| x.parse().expect("REPEAT is a number"));
-    1..=(seeds as f64 * repeat) as u64
+    1..=((seeds as f64 * repeat) as u64).max(1)
 }
 
 /// Runs a comparison over its seeds, on every processor; whether no difference was met, and all that it has to meet was.

@@ -4,7 +4,7 @@ use mathlib.Core.List.{[], _∷_, _++_}
 use Rattle.isa.specs.Text.{bytes}
 use Rattle.text.specs.Buffer.{wrote}
 use Rattle.text.specs.Number.{decimalLong}
-use Rattle.thread_lines.proofs.Parts.{after}
+use Rattle.text.proofs.Parts.{after}
 use Rattle.report.proofs.looks.put_looks.Statement.{statement}
 use Rattle.report.proofs.looks.put_looks.Tie as tie
 

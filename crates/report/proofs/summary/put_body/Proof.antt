@@ -3,7 +3,7 @@ use borrow.Author.Needs.{needs}
 use mathlib.Core.List.{[], _∷_, _++_}
 use Rattle.isa.specs.Text.{bytes}
 use Rattle.text.specs.Buffer.{wrote}
-use Rattle.thread_lines.proofs.Parts.{after}
+use Rattle.text.proofs.Parts.{after}
 use Rattle.report.proofs.summary.put_body.Statement.{statement}
 use Rattle.report.proofs.summary.put_body.Tie as tie
 use Rattle.report.specs.Report.{counted}

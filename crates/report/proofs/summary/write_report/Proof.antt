@@ -8,7 +8,7 @@ use Rattle.report.proofs.Lengths.{body-whole}
 use Rattle.report.proofs.summary.write_report.Statement.{statement}
 use Rattle.report.proofs.summary.write_report.Tie as tie
 use Rattle.report.specs.Report.{report}
-use Rattle.thread_lines.specs.Text.{concat}
+use Rattle.text.specs.Parts.{concat}
 
 returns : tie.Need-returns
 unfolding report bytes

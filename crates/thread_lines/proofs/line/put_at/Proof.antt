@@ -2,7 +2,7 @@
 use borrow.Author.Needs.{needs}
 use mathlib.Core.List.{[], _∷_}
 use Rattle.text.specs.Buffer.{wrote}
-use Rattle.thread_lines.proofs.Parts.{after}
+use Rattle.text.proofs.Parts.{after}
 use Rattle.thread_lines.specs.Text.{counter}
 use Rattle.thread_lines.proofs.line.put_at.Statement.{statement}
 use Rattle.thread_lines.proofs.line.put_at.Tie as tie

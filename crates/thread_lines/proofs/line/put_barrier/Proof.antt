@@ -3,7 +3,7 @@ use borrow.Author.Needs.{needs}
 use mathlib.Core.List.{[], _∷_, _++_}
 use Rattle.isa.specs.Text.{bytes}
 use Rattle.text.specs.Buffer.{wrote}
-use Rattle.thread_lines.proofs.Parts.{after}
+use Rattle.text.proofs.Parts.{after}
 use Rattle.text.specs.Number.{decimal}
 use Rattle.thread_lines.proofs.line.put_barrier.Statement.{statement}
 use Rattle.thread_lines.proofs.line.put_barrier.Tie as tie

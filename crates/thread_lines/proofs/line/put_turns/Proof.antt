@@ -4,7 +4,7 @@ use mathlib.Core.List.{[], _∷_, _++_}
 use Rattle.isa.specs.Text.{bytes}
 use Rattle.text.specs.Buffer.{wrote}
 use Rattle.text.specs.Number.{decimal}
-use Rattle.thread_lines.proofs.Parts.{after}
+use Rattle.text.proofs.Parts.{after}
 use Rattle.thread_lines.specs.Lines.{turnsUnit}
 use Rattle.thread_lines.proofs.line.put_turns.Statement.{statement}
 use Rattle.thread_lines.proofs.line.put_turns.Tie as tie

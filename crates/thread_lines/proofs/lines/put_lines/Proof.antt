@@ -8,11 +8,11 @@ use lib.ListN.{length}
 use Rattle.thread_lines.specs.Lines.{programCounter}
 use Rattle.text.specs.Buffer.{wrote}
 use Rattle.machine.specs.Machine.{statusAt, turnsAt}
-use Rattle.thread_lines.proofs.Parts.{after}
+use Rattle.text.proofs.Parts.{after}
 use Rattle.thread_lines.proofs.lines.put_lines.Statement.{statement}
 use Rattle.thread_lines.proofs.lines.put_lines.Tie as tie
 use Rattle.thread_lines.specs.Lines.{lineParts, linesParts}
-use Rattle.thread_lines.specs.Text.{putsAll}
+use Rattle.text.specs.Parts.{putsAll}
 
 abbrev Inv-loop : tie.InvT-loop
 Inv-loop out₀ at registers machine next₀ thread₀ out next thread = (wrote next out ≡ putsAll (wrote at out₀) (linesParts machine registers thread)) × (thread ≤ 8) × (length out ≡ length out₀)

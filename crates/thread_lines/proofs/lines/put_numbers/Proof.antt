@@ -7,11 +7,11 @@ use borrow.Author.Needs.{needs}
 use lib.ListN.{length}
 use Rattle.text.specs.Buffer.{wrote}
 use Rattle.machine.specs.Machine.{statusAt}
-use Rattle.thread_lines.proofs.Parts.{after}
+use Rattle.text.proofs.Parts.{after}
 use Rattle.thread_lines.proofs.lines.put_numbers.Statement.{statement}
 use Rattle.thread_lines.proofs.lines.put_numbers.Tie as tie
 use Rattle.thread_lines.specs.Lines.{offPart, offParts}
-use Rattle.thread_lines.specs.Text.{putsAll}
+use Rattle.text.specs.Parts.{putsAll}
 
 abbrev Inv-loop : tie.InvT-loop
 Inv-loop out₀ at machine next₀ thread₀ out next thread = (wrote next out ≡ putsAll (wrote at out₀) (offParts machine thread)) × (thread ≤ 8) × (length out ≡ length out₀)

@@ -4,7 +4,7 @@ use borrow.Author.Tests.{ne-eqb}
 use mathlib.Core.List.{[], _∷_, _++_}
 use Rattle.isa.specs.Text.{bytes}
 use Rattle.text.specs.Buffer.{wrote}
-use Rattle.thread_lines.proofs.Parts.{after}
+use Rattle.text.proofs.Parts.{after}
 use Rattle.thread_lines.specs.Lines.{offParts, offLine}
 use Rattle.thread_lines.proofs.lines.put_off_line.Statement.{statement}
 use Rattle.thread_lines.proofs.lines.put_off_line.Tie as tie

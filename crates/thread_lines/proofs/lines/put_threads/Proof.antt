@@ -1,7 +1,7 @@
 -- `put_threads` meets its contract: the lines of the threads that are on, and then that of the others.
 use borrow.Author.Needs.{needs}
 use Rattle.text.specs.Buffer.{wrote}
-use Rattle.thread_lines.proofs.Parts.{after}
+use Rattle.text.proofs.Parts.{after}
 use Rattle.thread_lines.specs.Lines.{linesParts, offLine}
 use Rattle.thread_lines.proofs.lines.put_threads.Statement.{statement}
 use Rattle.thread_lines.proofs.lines.put_threads.Tie as tie

@@ -1,12 +1,12 @@
--- Parts put one behind the other are one text.
+-- Parts put one behind the other are one text, as long as all of them.
 use Prim.Native.Nat.{ℕ, _+_, _≤_}
 use mathlib.Core.List.{List, [], _∷_, _++_, append-assoc, append-nil}
 use mathlib.Core.Path.{_≡_, refl, _∙_, ap}
 use native.Mathlib.Omega.{arith}
 use lib.ListN.{length, length-append}
-use Rattle.text.proofs.Placing.{puts-fits, writes-none}
 use Rattle.text.specs.Buffer.{Wrote, wrote, writes, puts}
-use Rattle.thread_lines.specs.Text.{concat, putsAll}
+use Rattle.text.specs.Parts.{concat, putsAll}
+use Rattle.text.proofs.Placing.{puts-fits, writes-none}
 
 puts-append : (w : Wrote) (us ts : List (List ℕ)) → putsAll (putsAll w us) ts ≡ putsAll w (us ++ ts)
 puts-append w [] ts = refl
@@ -27,3 +27,17 @@ puts-more l at t (u ∷ ts) fits =
 -- parts that have room at the start
 pub puts-whole : (l : List ℕ) (ts : List (List ℕ)) → length (concat ts) ≤ length l → putsAll (wrote 0 l) ts ≡ writes l 0 (concat ts)
 puts-whole l ts fits = ap (λ (x : Wrote). putsAll x ts) (writes-none l 0) ∙ puts-more l 0 [] ts (omega arith)
+
+-- the bytes of all parts
+abbrev pub total : List (List ℕ) → ℕ
+total [] = 0
+total (part ∷ parts) = length part + total parts
+
+pub length-concat : (parts : List (List ℕ)) → length (concat parts) ≡ total parts
+unfolding concat
+length-concat [] = refl
+length-concat (part ∷ parts) = length-append part (concat parts) ∙ ap (λ (n : ℕ). length part + n) (length-concat parts)
+
+pub total-append : (parts more : List (List ℕ)) → total (parts ++ more) ≡ total parts + total more
+total-append [] more = omega arith
+total-append (part ∷ parts) more = omega (arith, total-append parts more)
