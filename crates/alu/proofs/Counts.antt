@@ -1,4 +1,4 @@
--- The language's counts of zero bits are the counts of the definitions.
+-- The language's counts of zero bits are the counts of the definitions; what those of 0 are.
 use mathlib.Core.Path.{_≡_, refl, sym, _∙_}
 use mathlib.Core.Bool.{Bool, true, false, cond}
 use Prim.Native.Nat.{ℕ, zero, suc, _+_, _*_, _/_, _%_, _^_, _≤_, _<_}
@@ -8,6 +8,7 @@ use lib.Dec.{eqb, leb}
 use lib.Count.{leadingZeros, trailingZeros, under, leading-unique}
 use borrow.Author.Tests.{leb-true, leb-false}
 use Rattle.bits.specs.Bit.{isSet}
+use Rattle.alu.specs.Claims.{CountsOfZero}
 use Rattle.alu.specs.Unary.{zerosAbove, zerosBelow}
 
 -- the highest bit of a number of k + 1 bits says whether it is at least 2 ^ k
@@ -46,3 +47,7 @@ zeros-below zero x = refl
 zeros-below (suc k) x =
     digit (x % 2) (trailingZeros k (x / 2)) (omega arith)
     ∙ rw (div-one, zeros-below k (x / 2))
+
+pub counts-of-zero : CountsOfZero
+unfolding CountsOfZero zerosAbove zerosBelow
+counts-of-zero = (refl, refl)

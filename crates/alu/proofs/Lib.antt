@@ -2,10 +2,4 @@
 pub mod Products
 pub mod Complement
 pub mod Counts
-pub mod Signs
 pub mod Signed
-pub mod Unsigned
-pub mod FloatRows
-pub mod FloatOrder
-pub mod Ordered
-pub mod OneRule

@@ -6,7 +6,7 @@ use native.Mathlib.Nat.{lt-of-le-of-lt, mul-le-mul-left, mul-lt-mul-of-pos-right
 use native.Mathlib.Omega.{arith}
 use lib.Pow.{pow-pos, field}
 use Rattle.isa.specs.declared.instruction.BinaryOp.the-variants.{Sub, Mulhi}
-use Rattle.alu.specs.Word.{negative}
+use Rattle.twos_complement.specs.Word.{negative}
 use Rattle.alu.specs.Binary.{binary}
 
 -- the product of two words has 64 bits

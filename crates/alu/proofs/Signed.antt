@@ -1,98 +1,22 @@
 -- The signed operations are those of the signed whole numbers: proofs of the claims.
 use mathlib.Core.Path.{_≡_, refl, sym, ap, ap₂, _∙_}
-use mathlib.Core.Logic.{_⊎_, inl, inr}
+use mathlib.Core.Logic.{inl, inr}
 use mathlib.Core.Bool.{Bool, true, false, cond}
 use Prim.Native.Nat.{ℕ, zero, suc, _+_, _-_, _*_, _/_, _%_, _^_, _≤_, _<_}
 use native.Mathlib.Nat.{mod-eq-of-lt, mul-le-mul, mul-le-mul-left, mul-sub, mul-comm, add-mul, mul-add, add-mul-mod-self-right}
 use native.Mathlib.Omega.{arith}
 use lib.Arith.{digits-mod}
-use lib.Dec.{leb, ltb}
+use lib.Dec.{leb}
 use lib.IntN.{pos, negsuc, negℤ, _*ℤ_}
 use lib.Pow.{pow-pos, pow-mono, pow-add, shr-le}
-use lib.Signed.{ltZ, leZ, shrZ}
-use borrow.Author.Tests.{leb-true, leb-false, le-leb, lt-leb, lt-ltb}
+use lib.Signed.{shrZ}
+use borrow.Author.Tests.{leb-true, leb-false}
 use Rattle.word_layout.specs.Layout.{extended}
-use Rattle.alu.specs.Word.{rank, value}
+use Rattle.twos_complement.specs.Word.{value}
 use Rattle.alu.specs.Binary.{distance}
-use Rattle.alu.specs.Claims.{MulhiIsSigned, AshrIsSigned, Sext8IsSigned, Sext16IsSigned, SignedOrder}
+use Rattle.alu.specs.Claims.{MulhiIsSigned, AshrIsSigned, Sext8IsSigned, Sext16IsSigned}
 use Rattle.alu.proofs.Complement.{complement-div, ashr-negative, ashr-positive}
-
--- what a number of `bits` bits stands for, by its sign
-pub value-positive : (bits x : ℕ) → x < 2 ^ (bits - 1) → value bits x ≡ pos x
-value-positive bits x h = rw (lt-leb (2 ^ (bits - 1)) x h)
-
-pub value-negative : (bits x : ℕ) → 2 ^ (bits - 1) ≤ x → x < 2 ^ bits → value bits x ≡ negsuc (2 ^ bits - suc x)
-value-negative bits x h l = rw (le-leb (2 ^ (bits - 1)) x h, lt-ltb x (2 ^ bits) l)
-
--- the word of a negative number
-value-below : (n : ℕ) → n < 2 ^ 31 → value 32 (2 ^ 32 - 1 - n) ≡ negsuc n
-value-below n h = value-negative 32 (2 ^ 32 - 1 - n) (omega arith) (omega arith) ∙ ap negsuc (omega arith)
-
--- a word by its sign: a negative one is that of -(n + 1)
-record Positive (x : ℕ) : Type 0 where
-  below : x < 2 ^ 31
-  is : value 32 x ≡ pos x
-  wide : extended 64 (2 ^ 31) x ≡ x
-  place : rank x ≡ x + 2 ^ 31
-
-record Negative (x n : ℕ) : Type 0 where
-  word : x ≡ 2 ^ 32 - 1 - n
-  below : n < 2 ^ 31
-  is : value 32 x ≡ negsuc n
-  wide : extended 64 (2 ^ 31) x ≡ 2 ^ 64 - suc n
-  place : rank x ≡ 2 ^ 31 - suc n
-
-Sign : ℕ → Type 0
-Sign x = Positive x ⊎ Negative x (2 ^ 32 - suc x)
-
-sign : (x : ℕ) → x < 2 ^ 32 → Sign x
-unfolding Sign
-sign x l = go (leb (2 ^ 31) x) refl
-  where
-    go : (t : Bool) → leb (2 ^ 31) x ≡ t → Sign x
-    go false e =
-        let h : x < 2 ^ 31 = leb-false (2 ^ 31) x e in
-        inl (record { below = h; is = value-positive 32 x h; wide = rw e; place = rw e })
-    go true e =
-        let h : 2 ^ 31 ≤ x = leb-true (2 ^ 31) x e in
-        inr (record { word = omega arith; below = omega arith; is = value-negative 32 x h l; wide = rw e (omega arith); place = rw e (omega arith) })
-
--- ---- the order
-
-same : (a b x y : ℕ) → (x ≤ y → a ≤ b) → (y < x → b < a) → leb a b ≡ leb x y
-same a b x y f g = go (leb x y) refl
-  where
-    go : (t : Bool) → leb x y ≡ t → leb a b ≡ t
-    go true e = le-leb a b (f (leb-true x y e))
-    go false e = lt-leb a b (g (leb-false x y e))
-
-mirrored-le : (m n : ℕ) → m < 2 ^ 31 → n < 2 ^ 31 → leb (2 ^ 31 - suc m) (2 ^ 31 - suc n) ≡ leb n m
-mirrored-le m n hm hn = same (2 ^ 31 - suc m) (2 ^ 31 - suc n) n m (λ h. omega arith) (λ h. omega arith)
-
-mirrored-lt : (m n : ℕ) → m < 2 ^ 31 → n < 2 ^ 31 → ltb (2 ^ 31 - suc m) (2 ^ 31 - suc n) ≡ ltb n m
-mirrored-lt m n hm hn = same (suc (2 ^ 31 - suc m)) (2 ^ 31 - suc n) (suc n) m (λ h. omega arith) (λ h. omega arith)
-
-ranks-le : (x y : ℕ) → Sign x → Sign y → leb (rank x) (rank y) ≡ leZ (value 32 x) (value 32 y)
-unfolding Sign
-ranks-le x y (inl p) (inl q) = ap₂ leb (p .place) (q .place) ∙ same (x + 2 ^ 31) (y + 2 ^ 31) x y (λ h. omega arith) (λ h. omega arith) ∙ sym (ap₂ leZ (p .is) (q .is))
-ranks-le x y (inl p) (inr q) = ap₂ leb (p .place) (q .place) ∙ lt-leb (x + 2 ^ 31) (2 ^ 31 - suc (2 ^ 32 - suc y)) (omega arith) ∙ sym (ap₂ leZ (p .is) (q .is))
-ranks-le x y (inr p) (inl q) = ap₂ leb (p .place) (q .place) ∙ le-leb (2 ^ 31 - suc (2 ^ 32 - suc x)) (y + 2 ^ 31) (omega arith) ∙ sym (ap₂ leZ (p .is) (q .is))
-ranks-le x y (inr p) (inr q) =
-    ap₂ leb (p .place) (q .place) ∙ mirrored-le _ _ (p .below) (q .below) ∙ sym (ap₂ leZ (p .is) (q .is))
-
-ranks-lt : (x y : ℕ) → Sign x → Sign y → ltb (rank x) (rank y) ≡ ltZ (value 32 x) (value 32 y)
-unfolding Sign
-ranks-lt x y (inl p) (inl q) = ap₂ ltb (p .place) (q .place) ∙ same (suc (x + 2 ^ 31)) (y + 2 ^ 31) (suc x) y (λ h. omega arith) (λ h. omega arith) ∙ sym (ap₂ ltZ (p .is) (q .is))
-ranks-lt x y (inl p) (inr q) = ap₂ ltb (p .place) (q .place) ∙ lt-leb (suc (x + 2 ^ 31)) (2 ^ 31 - suc (2 ^ 32 - suc y)) (omega arith) ∙ sym (ap₂ ltZ (p .is) (q .is))
-ranks-lt x y (inr p) (inl q) = ap₂ ltb (p .place) (q .place) ∙ le-leb (suc (2 ^ 31 - suc (2 ^ 32 - suc x))) (y + 2 ^ 31) (omega arith) ∙ sym (ap₂ ltZ (p .is) (q .is))
-ranks-lt x y (inr p) (inr q) =
-    ap₂ ltb (p .place) (q .place) ∙ mirrored-lt _ _ (p .below) (q .below) ∙ sym (ap₂ ltZ (p .is) (q .is))
-
-pub signed-order : SignedOrder
-signed-order x y hx hy =
-    let sx = sign x hx in
-    let sy = sign y hy in
-    record { gt = ranks-lt y x sy sx; ge = ranks-le y x sy sx; lt = ranks-lt x y sx sy; le = ranks-le x y sx sy }
+use Rattle.twos_complement.proofs.Sign.{value-positive, value-negative, value-below, Sign, sign}
 
 -- ---- ashr
 

@@ -2,7 +2,7 @@
 ghost use mathlib.Core.Path.{_≡_};
 ghost use mathlib.Core.Bool.{cond};
 ghost use Rattle.isa.specs.declared.instruction.BinaryOp.the-variants.{Mullo, Mulhi, Mulhu};
-ghost use Rattle.alu.specs.Word.{negative};
+ghost use Rattle.twos_complement.specs.Word.{negative};
 ghost use Rattle.alu.specs.Binary.{binary};
 
 pub fn mullo(x: u32, y: u32) -> u32

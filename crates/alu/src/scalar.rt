@@ -1,16 +1,12 @@
-// The three families of operations on words: two operands, one operand, compares.
+// The two families of operations on words: two operands, one operand.
 ghost use mathlib.Core.Path.{_≡_};
 ghost use Rattle.alu.specs.Binary.{isFloat, integer, arithmetic, binary};
 ghost use Rattle.alu.specs.Unary.{isConversion, integerUnary, conversion, unary};
-ghost use Rattle.alu.specs.Compare.{compare};
 use crate::extend::sext8;
 use crate::extend::sext16;
 use crate::product::mulhi;
 use crate::product::mulhu;
 use crate::product::mullo;
-use crate::rows::compare_row;
-use crate::rows::order;
-use crate::rows::pick;
 use crate::shift::ashr;
 use crate::shift::shl;
 use crate::shift::shr;
@@ -21,7 +17,6 @@ use float::fmul;
 use float::fsub;
 use float::i32tof32;
 use isa::BinaryOp;
-use isa::CompareOp;
 use isa::UnaryOp;
 
 // The operations on whole numbers, apart from those on floats: what the lane loops call has to be small, or the compiler makes no vector
@@ -153,18 +148,4 @@ pub fn unary(op: UnaryOp, x: u32) -> u32
         return conversion(op, x);
     }
     integer_unary(op, x)
-}
-
-pub fn compare(op: CompareOp, x: u32, y: u32) -> bool
-    ensures { λ r. ⌜ r ≡ compare op x y ⌝ }
-{
-    let row = compare_row(op);
-    let kind = row.kind;
-    pick(
-        order(kind, x, y),
-        row.below,
-        row.equal,
-        row.above,
-        row.unordered,
-    )
 }

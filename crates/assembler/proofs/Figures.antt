@@ -5,9 +5,10 @@ use Rattle.isa.specs.Test.{all, allFrom}
 use Rattle.word_layout.specs.Layout.{signed, fits-signed}
 use Rattle.isa.specs.Number.{fitsMovei}
 use Rattle.isa.specs.Write.{write, writeR, writeI, writeMovei, writeJ, writeC, writeM, written}
-use Rattle.expression.specs.Token.{leadingBlanks, leadingWord, tokensIn}
-use Rattle.expression.specs.Number.{digitsOn, numeral, number}
-use Rattle.expression.specs.Grammar.{allLetters, wordTerm, sumAt, expressionAt}
+use Rattle.token.specs.Token.{leadingBlanks, leadingWord, tokensIn}
+use Rattle.token.specs.Number.{digitsOn, numeral, number}
+use Rattle.token.specs.Name.{allLetters}
+use Rattle.expression.specs.Grammar.{wordTerm, sumAt, expressionAt}
 use Rattle.expression.specs.Value.{bounded, valueSum}
 use Rattle.expression.specs.Label.{same}
 use Rattle.statement.specs.Mnemonic.{withImmediate, nameable, namedIn}

@@ -6,7 +6,7 @@ use mathlib.Core.Path.{_≡_, refl, sym, ap, _∙_}
 use native.Mathlib.Omega.{arith}
 use lib.ListN.{length, take, drop, set, length-set}
 use lib.Seq.{length-take-le}
-use Rattle.expression.specs.Token.{leadingWord}
+use Rattle.token.specs.Token.{leadingWord}
 use Rattle.statement.specs.Line.{Line, lineOf}
 use Rattle.statement.specs.Evaluation.{evaluatedLine, lineValue, LabelInside}
 use Rattle.statement.specs.declared.lines.Line as C

@@ -9,7 +9,7 @@ use Rattle.statement.specs.Line.{Line, blank, label, instruction, lineOf}
 use Rattle.statement.specs.Evaluation.{LineValue, evaluatedLine, lineValue}
 use Rattle.statement.specs.Evaluation as LineValue
 use Rattle.statement.specs.Field.{valueIn, operandValuesOf}
-use Rattle.expression.specs.Token.{leadingWord}
+use Rattle.token.specs.Token.{leadingWord}
 use Rattle.statement.specs.declared.lines.Line as C
 use Rattle.statement.specs.declared.lines.Line.the-variants.{Malformed, Blank, Label, Code}
 use Rattle.assembler.specs.Types.{Pass, Texts, Labels, Words}

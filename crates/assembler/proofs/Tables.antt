@@ -2,8 +2,8 @@
 use Prim.Native.Nat.{ℕ, zero, suc, _+_, _*_, _-_, _≤_, _<_}
 use mathlib.Core.Bool.{Bool, true, false, _||_, cond}
 use borrow.Author.Tests.{le-leb, lt-leb}
-use Rattle.expression.proofs.Runs.{run-part}
-use Rattle.statement.proofs.Parts.{part-is}
+use Rattle.token.proofs.Runs.{run-part}
+use Rattle.token.proofs.Runs.{part-is}
 use mathlib.Core.List.{List, [], _∷_, _++_}
 use mathlib.Core.Option.{Option, none, some}
 use mathlib.Core.Path.{_≡_, refl, sym, ap, _∙_}
@@ -13,8 +13,9 @@ use lib.Dec.{ltb}
 use lib.ListN.{length, take, drop, set, length-set}
 use lib.Seq.{take-suc-set, length-take-le}
 use Rattle.expression.specs.Label.{addressIn, same}
-use Rattle.expression.specs.Token.{leadingWord}
-use Rattle.expression.specs.Value.{labelValue, bounded, bias, limit}
+use Rattle.token.specs.Token.{leadingWord}
+use Rattle.expression.specs.Value.{labelValue, bounded, bias}
+use Rattle.token.specs.Number.{limit}
 use Rattle.assembler.specs.Types.{Value, Known, TooLarge, Unknown}
 use Rattle.assembler.specs.Source.{Label, named, addressAmong, isKnown, nameNumber}
 use Rattle.assembler.specs.Walk.{entries}

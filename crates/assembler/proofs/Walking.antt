@@ -6,13 +6,13 @@ use mathlib.Core.Path.{_≡_, refl, sym, ap, _∙_}
 use native.Mathlib.Omega.{arith}
 use lib.ListN.{length, take, drop, take-append-drop, length-append}
 use lib.Seq.{take-at, drop-drop}
-use Rattle.expression.specs.Token.{leadingWord}
+use Rattle.token.specs.Token.{leadingWord}
 use Rattle.statement.specs.Line.{Line, lineOf}
 use Rattle.statement.specs.Evaluation.{LineValue, evaluatedLine, lineValue, LabelInside}
 use Rattle.statement.specs.Evaluation as LineValue
 use Rattle.statement.specs.declared.lines.Line as C
 use Rattle.statement.specs.declared.lines.Line.the-variants.{Malformed, Blank, Label, Code}
-use Rattle.statement.proofs.Parts.{part-is}
+use Rattle.token.proofs.Runs.{part-is}
 use Rattle.statement.proofs.Ends.{take-upto, word-in-line}
 use Rattle.assembler.specs.Types.{Pass, Texts, Labels, Words}
 use Rattle.assembler.specs.Source.{textsOf, lineIn, linesOf, count, labelsFrom, labelsOf}

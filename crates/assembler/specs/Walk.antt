@@ -6,7 +6,7 @@ use mathlib.Core.Option.{Option, none, some}
 use mathlib.Core.Path.{_≡_}
 use lib.Dec.{eqb}
 use lib.ListN.{length, drop, set}
-use Rattle.expression.specs.Token.{leadingWord}
+use Rattle.token.specs.Token.{leadingWord}
 use Rattle.statement.specs.Meaning.{wordWith}
 use Rattle.statement.specs.Line.{upTo}
 use Rattle.statement.specs.Evaluation.{LineValue, nothing, label, code}

@@ -1,6 +1,5 @@
 // The lines of a source, one after the other.
 use expression::Value;
-use expression::past_run;
 use expression::value_of_label;
 use isa::Instruction;
 use isa::Writing;
@@ -8,12 +7,13 @@ use statement::Line;
 use statement::OperandValues;
 use statement::line_of;
 use statement::word_of;
+use token::past_run;
 ghost use Prim.Native.Nat.{_+_, _*_, _%_, _^_, _≤_};
 ghost use mathlib.Core.Path.{_≡_};
 ghost use mathlib.Core.Option.{some};
 ghost use lib.ListN.{length, take, drop};
 ghost use Rattle.expression.specs.Label.{addressIn};
-ghost use Rattle.expression.specs.Token.{leadingWord};
+ghost use Rattle.token.specs.Token.{leadingWord};
 ghost use Rattle.statement.specs.Meaning.{wordIn};
 ghost use Rattle.statement.specs.Evaluation.{lineValue, LabelInside};
 ghost use Rattle.assembler.specs.Source.{first, textsOf, nameNumber, unknownIn, valueNumber, valueWord, linesOf};

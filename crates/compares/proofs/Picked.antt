@@ -6,14 +6,14 @@ use native.Mathlib.Omega.{arith}
 use lib.IntN.{pos}
 use lib.Signed.{ltZ}
 use Rattle.isa.specs.declared.instruction.CompareOp.{CompareOp}
-use Rattle.alu.specs.Compare.{compare}
-use Rattle.alu.specs.Word.{value}
-use Rattle.alu.specs.Order.{order, biasOf, orderBiased, rowOf, pick}
-use Rattle.alu.specs.declared.rows.Kind.{Kind}
-use Rattle.alu.specs.declared.rows.Kind.the-variants.{Unsigned, Signed, Float}
-use Rattle.alu.specs.declared.rows.Ordering.{Ordering}
-use Rattle.alu.specs.declared.rows.Ordering.the-variants.{Below, Equal, Above, Unordered}
-use Rattle.alu.proofs.Ordered.{unbiased, biased, by-row}
+use Rattle.ordering.specs.Compare.{compare}
+use Rattle.twos_complement.specs.Word.{value}
+use Rattle.ordering.specs.Order.{order, biasOf, orderBiased, rowOf, pick}
+use Rattle.ordering.specs.declared.rows.Kind.{Kind}
+use Rattle.ordering.specs.declared.rows.Kind.the-variants.{Unsigned, Signed, Float}
+use Rattle.ordering.specs.declared.rows.Ordering.{Ordering}
+use Rattle.ordering.specs.declared.rows.Ordering.the-variants.{Below, Equal, Above, Unordered}
+use Rattle.ordering.proofs.Ordered.{unbiased, biased, by-row}
 use Rattle.compares.specs.Outcome.{isFloat, flagsOf}
 
 -- what is picked, by the two tests

@@ -2,7 +2,7 @@
 use Prim.Native.Nat.{ℕ, zero, suc, _+_, _^_}
 use mathlib.Core.Bool.{Bool, cond, _&&_}
 use mathlib.Core.List.{List}
-use Rattle.alu.specs.Compare.{compare}
+use Rattle.ordering.specs.Compare.{compare}
 use Rattle.vector.specs.Lanes.{lane, isOn}
 use Rattle.isa.specs.declared.instruction.CompareOp.{CompareOp}
 

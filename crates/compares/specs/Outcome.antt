@@ -3,11 +3,11 @@ use Prim.Native.Nat.{ℕ, _-_, _^_}
 use mathlib.Core.Bool.{Bool, true, false, cond}
 use mathlib.Core.List.{List}
 use Rattle.isa.specs.declared.instruction.CompareOp.{CompareOp}
-use Rattle.alu.specs.Compare.{compare}
-use Rattle.alu.specs.Order.{biasOf}
-use Rattle.alu.specs.declared.rows.CompareRow.{CompareRow}
-use Rattle.alu.specs.declared.rows.Kind.{Kind}
-use Rattle.alu.specs.declared.rows.Kind.the-variants.{Unsigned, Signed, Float}
+use Rattle.ordering.specs.Compare.{compare}
+use Rattle.ordering.specs.Order.{biasOf}
+use Rattle.ordering.specs.declared.rows.CompareRow.{CompareRow}
+use Rattle.ordering.specs.declared.rows.Kind.{Kind}
+use Rattle.ordering.specs.declared.rows.Kind.the-variants.{Unsigned, Signed, Float}
 use Rattle.vector.specs.Lanes.{lane}
 use Rattle.compares.specs.Lanes.{maskBelow}
 use Rattle.compares.specs.declared.outcome.Outcomes.{Outcomes}

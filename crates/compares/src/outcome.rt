@@ -1,16 +1,16 @@
 // A compare of sixteen lanes as a bit a lane.
 ghost use mathlib.Core.Bool.{true, false};
 ghost use mathlib.Core.Path.{_≡_};
-ghost use Rattle.alu.specs.declared.rows.Kind.the-variants.{Float};
-ghost use Rattle.alu.specs.Compare.{compare};
-ghost use Rattle.alu.specs.Order.{order, biasOf, rowOf, pick};
+ghost use Rattle.ordering.specs.declared.rows.Kind.the-variants.{Float};
+ghost use Rattle.ordering.specs.Compare.{compare};
+ghost use Rattle.ordering.specs.Order.{order, biasOf, rowOf, pick};
 ghost use Rattle.vector.specs.Lanes.{lane};
 ghost use Rattle.compares.specs.Lanes.{maskBelow, compareLanes};
 ghost use Rattle.compares.specs.Outcome.{isFloat, flagsOf, outcomesOf, answersOf};
-use alu::CompareRow;
-use alu::Kind;
-use alu::Ordering;
 use isa::CompareOp;
+use ordering::CompareRow;
+use ordering::Kind;
+use ordering::Ordering;
 
 // A row of whole numbers as lanes take it: the bias of its kind, and its columns with 16 ones for an outcome that counts as yes, 0 for another.
 struct Outcomes {
@@ -97,7 +97,12 @@ fn answer(op: CompareOp, o: Outcomes, x: u32, y: u32) -> u32
     requires { ⌜ (o ≡ outcomesOf (rowOf op)) × (isFloat (rowOf op .kind) ≡ false) ⌝ }
     ensures { λ r. ⌜ r ≡ flagsOf (compare op x y) ⌝ }
 {
-    select(alu::order_biased(o.bias, x, y), o.below, o.equal, o.above)
+    select(
+        ordering::order_biased(o.bias, x, y),
+        o.below,
+        o.equal,
+        o.above,
+    )
 }
 
 // The row is looked up outside the loop: one loop serves every compare of whole numbers.
@@ -116,7 +121,7 @@ fn each_integer(op: CompareOp, o: Outcomes, x: [u32; 16], y: [u32; 16]) -> u32
 fn float_answer(below: bool, equal: bool, above: bool, unordered: bool, x: u32, y: u32) -> bool
     ensures { λ r. ⌜ r ≡ pick (order Float x y) below equal above unordered ⌝ }
 {
-    let outcome = alu::order(Kind::Float, x, y);
+    let outcome = ordering::order(Kind::Float, x, y);
     match outcome {
         Ordering::Below => below,
         Ordering::Equal => equal,
@@ -171,7 +176,7 @@ fn float_answers(op: CompareOp, x: [u32; 16], y: [u32; 16]) -> u32
 fn answers(op: CompareOp, x: [u32; 16], y: [u32; 16]) -> u32
     ensures { λ r. ⌜ r ≡ answersOf op x y ⌝ }
 {
-    let row = alu::compare_row(op);
+    let row = ordering::compare_row(op);
     let kind = row.kind;
     if is_float(kind) {
         return float_answers(op, x, y);

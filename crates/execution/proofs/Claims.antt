@@ -14,7 +14,7 @@ use Rattle.machine.specs.Barrier.{refusesBarrier, arrive, reachBarrier}
 use Rattle.machine.specs.Claims.{KeepsRecord}
 use Rattle.machine.specs.Machine.{statusAt, turnsOf, withTurns, trap}
 use Rattle.machine.specs.Scheduler.{runs}
-use Rattle.machine.specs.Status.{isRunning}
+use Rattle.thread_entry.specs.Status.{isRunning}
 use Rattle.execution.specs.Effect.{Executed}
 use Rattle.execution.proofs.Effects.{Reasoned, UnlessGoesOn, executes-word}
 use Rattle.execution.proofs.OwnRegisters.{Own, own-none, own-then, own-scalar, own-others}

@@ -3,7 +3,7 @@ use Prim.Native.Nat.{ℕ, _%_}
 use mathlib.Core.Bool.{Bool, _||_, cond}
 use mathlib.Core.List.{List}
 use Rattle.alu.specs.Binary.{binary}
-use Rattle.alu.specs.Compare.{compare}
+use Rattle.ordering.specs.Compare.{compare}
 use Rattle.compares.specs.Lanes.{compareLanes}
 use Rattle.vector.specs.Lanes.{lane, binaryLanes, unaryLanes, shuffled}
 use Rattle.alu.specs.Unary.{unary}

@@ -25,5 +25,5 @@ pub use Rattle.isa.specs.declared.instruction.MemoryOp.the-variants.{Load, Stor
 pub use Rattle.isa.specs.declared.instruction.Instruction.{Instruction}
 pub use Rattle.isa.specs.declared.instruction.Instruction.the-variants.{R, I, Movei, J, C, M}
 pub use Rattle.machine.specs.declared.record.Machine.{Machine}
-pub use Rattle.machine.specs.declared.status.Status.the-variants.{Ended, Trapped}
+pub use Rattle.thread_entry.specs.declared.status.Status.the-variants.{Ended, Trapped}
 pub use Rattle.machine.specs.declared.barrier.BarrierResult.{BarrierResult}

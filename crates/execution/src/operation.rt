@@ -64,7 +64,7 @@ fn compare(regs: &mut [u32], t: usize, op: CompareOp, d: u32, a: Source, b: Sour
     } else {
         let x = operand::word(a);
         let y = operand::word(b);
-        registers::set_scalar(regs, t, d, number(alu::compare(op, x, y)));
+        registers::set_scalar(regs, t, d, number(ordering::compare(op, x, y)));
     }
 }
 

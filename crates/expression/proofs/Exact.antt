@@ -9,13 +9,14 @@ use borrow.Author.Tests.{le-ltb, lt-leb, ne-eqb, eqb-true}
 use lib.Dec.{eqb, leb, ltb}
 use lib.ListN.{length, length-append}
 use Rattle.expression.specs.Claims.{signMark, leading, IsTerm, a-number, a-label, a-group, IsSum, one, more, Exact}
-use Rattle.expression.specs.Grammar.{Parse, parse, andThen, past, signAt, leadAt, closed, goesOn, wordTerm, behindIt, numberOr, isLabel, allLetters, termAt, sumAt}
-use Rattle.expression.specs.Byte.{between, isDigit, isLetter, digit}
-use Rattle.expression.specs.Number.{number as numberOf, numeral, digitsOn}
-use Rattle.expression.proofs.Bytes.{and-left, at-least}
-use Rattle.expression.proofs.Numbers.{and-false}
+use Rattle.expression.specs.Grammar.{Parse, parse, andThen, signAt, leadAt, closed, goesOn, wordTerm, behindIt, numberOr, termAt, sumAt}
+use Rattle.token.specs.Token.{past, Token, word, mark}
+use Rattle.token.specs.Name.{isLabel, allLetters}
+use Rattle.token.specs.Byte.{between, isDigit, isLetter, digit}
+use Rattle.token.specs.Number.{number as numberOf, numeral, digitsOn}
+use Rattle.token.proofs.Bytes.{and-left, at-least}
+use Rattle.token.proofs.Numbers.{and-false}
 use Rattle.expression.specs.Syntax.{Term, number, label, group, Sum, last, next}
-use Rattle.expression.specs.Token.{Token, word, mark}
 use Rattle.expression.specs.Types.{Sign, Plus, Minus}
 
 -- a sum begins with a word or an opening parenthesis, so no minus is taken from it

@@ -1,20 +1,20 @@
 -- Labels found by their names.
-use Prim.Native.Nat.{ℕ, zero, suc, _+_, _-_, _<_, _≤_}
+use Prim.Native.Nat.{ℕ, suc, _+_, _-_, _<_, _≤_}
 use mathlib.Core.Bool.{Bool, true, false, _&&_, cond}
 use mathlib.Core.List.{List, [], _∷_}
-use mathlib.Core.Option.{Option, none, some}
-use mathlib.Core.Path.{_≡_, refl, sym, ap, _∙_}
+use mathlib.Core.Option.{none, some}
+use mathlib.Core.Path.{_≡_, refl, ap, _∙_}
 use native.Mathlib.Numerals.{add-one}
 use native.Mathlib.Omega.{arith}
 use borrow.Author.Tests.{eq-eqb, ne-eqb}
 use lib.Dec.{eqb}
-use lib.ListN.{length, take, drop, getD, length-drop, drop-of-length-le}
-use lib.Seq.{slice, length-slice, slice-cons, slice-empty, drop-cons}
-use Rattle.expression.specs.Byte.{inWord}
+use lib.ListN.{length, drop, getD, length-drop}
+use lib.Seq.{slice, length-slice, slice-cons, drop-cons}
+use Rattle.token.specs.Byte.{inWord}
 use Rattle.expression.specs.Label.{same, addressIn}
-use Rattle.expression.specs.Token.{leadingWord}
-use Rattle.expression.proofs.Numbers.{past-part}
-use Rattle.expression.proofs.Runs.{run-part, run-short}
+use Rattle.token.specs.Token.{leadingWord}
+use Rattle.token.proofs.Numbers.{past-part}
+use Rattle.token.proofs.Runs.{run-part, run-short}
 
 lengths-by : (b c : Bool) → false ≡ c → false ≡ b && c
 lengths-by true c h = h

@@ -8,16 +8,17 @@ use native.Mathlib.Omega.{arith}
 use lib.Dec.{eqb}
 use lib.ListN.{length, drop, length-drop}
 use Rattle.expression.proofs.Exact.{enough}
-use Rattle.expression.specs.Byte.{isBlank, inWord}
+use Rattle.token.specs.Byte.{isBlank, inWord}
 use lib.Seq.{slice}
-use Rattle.expression.specs.Grammar.{Parse, parse, andThen, past, signAt, leadAt, closed, goesOn, wordTerm, behindIt, numberOr, isLabel, allLetters, termAt, sumAt, expressionAt}
+use Rattle.expression.specs.Grammar.{Parse, parse, andThen, signAt, leadAt, closed, goesOn, wordTerm, behindIt, numberOr, termAt, sumAt, expressionAt}
+use Rattle.token.specs.Token.{past, Token, word, mark, tokensIn, tokens}
+use Rattle.token.specs.Name.{isLabel}
 use Rattle.expression.specs.Label.{addressIn}
-use Rattle.expression.specs.Number.{number as numberOf}
+use Rattle.token.specs.Number.{number as numberOf}
 use Rattle.expression.specs.Reading.{parsedAs, evaluated, wordValue, grouped, groupedAt, TermRead, SumRead}
-use Rattle.expression.specs.Syntax.{Term, number, label, group, Sum, last, next}
-use Rattle.expression.specs.Token.{Token, word, mark, tokensIn, tokens}
-use Rattle.expression.specs.Types.{Sign, Plus, Minus, Value, Known, TooLarge, Unknown}
-use Rattle.expression.specs.Value.{plus, nested, bias, valueTerm, valueSum, valueOf}
+use Rattle.expression.specs.Syntax.{Term, label, group, Sum, next}
+use Rattle.expression.specs.Types.{Sign, Value, Known}
+use Rattle.expression.specs.Value.{plus, bias, valueTerm, valueSum, valueOf}
 use Rattle.expression.specs.declared.expression.Parsed.{Parsed}
 use Rattle.expression.specs.declared.expression.Parsed.the-variants.{Read, Malformed}
 

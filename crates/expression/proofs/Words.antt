@@ -1,5 +1,5 @@
 -- Words as terms.
-use Prim.Native.Nat.{ℕ, _+_, _<_, _≤_}
+use Prim.Native.Nat.{ℕ, _+_}
 use mathlib.Core.Bool.{Bool, true, false, cond}
 use mathlib.Core.List.{List}
 use mathlib.Core.Option.{Option, none, some}
@@ -7,15 +7,16 @@ use mathlib.Core.Path.{_≡_, refl, sym, ap, _∙_}
 use native.Mathlib.Omega.{arith}
 use borrow.Author.Tests.{ltb-true, ltb-false}
 use lib.Dec.{ltb}
-use Rattle.expression.specs.Grammar.{Parse, wordTerm, isLabel, numberOr}
-use Rattle.expression.specs.Number.{number as numberOf}
+use Rattle.expression.specs.Grammar.{wordTerm, numberOr}
+use Rattle.token.specs.Name.{isLabel}
+use Rattle.token.specs.Number.{number as numberOf}
 use Rattle.expression.specs.Reading.{wordValue, termValueOf}
 use Rattle.expression.specs.Syntax.{Term, number, label}
-use Rattle.expression.specs.Token.{Token}
+use Rattle.token.specs.Token.{Token}
 use Rattle.expression.specs.Types.{Value}
 use Rattle.expression.specs.Value.{bounded, bias, labelValue, valueTerm}
-use Rattle.expression.specs.Word.{cap, capped}
-use Rattle.expression.proofs.Numbers.{cap-large, cap-small}
+use Rattle.token.specs.Word.{cap, capped}
+use Rattle.token.proofs.Numbers.{cap-large, cap-small}
 use Rattle.expression.proofs.Values.{too-large}
 
 pub worth-some : (f : Term → Value) (o : Option Term) (v : Value) (ts : List Token) → some v ≡ termValueOf f o → some (record { value = v; rest = ts }) ≡ wordValue f o ts

@@ -6,10 +6,11 @@ use mathlib.Core.Logic.{_↔_}
 use mathlib.Core.Option.{some}
 use mathlib.Core.Path.{_≡_}
 use lib.ListN.{length}
-use Rattle.expression.specs.Grammar.{parse, isLabel, sumAt}
-use Rattle.expression.specs.Number.{number as numberOf}
+use Rattle.expression.specs.Grammar.{parse, sumAt}
+use Rattle.token.specs.Name.{isLabel}
+use Rattle.token.specs.Number.{number as numberOf}
 use Rattle.expression.specs.Syntax.{Term, number, label, group, Sum, last, next}
-use Rattle.expression.specs.Token.{Token, word, mark}
+use Rattle.token.specs.Token.{Token, word, mark}
 use Rattle.expression.specs.Types.{Sign, Plus, Minus}
 
 -- the mark of a sign: + or -

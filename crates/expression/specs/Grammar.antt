@@ -1,14 +1,14 @@
 -- Which sum, term or sign the tokens of a line begin with, and the tokens behind it.
 use Prim.Native.Nat.{ℕ, zero, suc, _+_, _*_}
-use mathlib.Core.Bool.{Bool, true, false, _&&_, cond}
+use mathlib.Core.Bool.{cond}
 use mathlib.Core.List.{List, [], _∷_}
 use mathlib.Core.Option.{Option, none, some}
-use lib.Dec.{eqb, leb}
+use lib.Dec.{eqb}
 use lib.ListN.{length}
-use Rattle.expression.specs.Byte.{isLetter}
-use Rattle.expression.specs.Number.{number as numberOf}
+use Rattle.token.specs.Name.{isLabel}
+use Rattle.token.specs.Number.{number as numberOf}
 use Rattle.expression.specs.Syntax.{Term, number, label, group, Sum, last, next, Expression}
-use Rattle.expression.specs.Token.{Token, word, mark}
+use Rattle.token.specs.Token.{Token, word, mark, past}
 use Rattle.expression.specs.Types.{Sign, Plus, Minus}
 
 -- what stands in front, and the tokens behind it; none where it does not stand there
@@ -23,12 +23,6 @@ abbrev pub andThen : {A : Type 0} {B : Type 0} → Option (Parse A) → (A → L
 andThen none f = none
 andThen (some a) f = f (a .value) (a .rest)
 
--- the tokens behind the mark c
-abbrev pub past : ℕ → List Token → Option (List Token)
-past c [] = none
-past c (word w ∷ ts) = none
-past c (mark d ∷ ts) = cond (eqb d c) (some ts) none
-
 -- a sign between two terms
 abbrev pub signAt : List Token → Option (Parse Sign)
 signAt [] = none
@@ -40,14 +34,6 @@ abbrev pub leadAt : List Token → Parse Sign
 leadAt [] = record { value = Plus; rest = [] }
 leadAt (word w ∷ ts) = record { value = Plus; rest = word w ∷ ts }
 leadAt (mark c ∷ ts) = cond (eqb c 45) (record { value = Minus; rest = ts }) (record { value = Plus; rest = mark c ∷ ts })
-
--- "labels of 1 to 16 letters"
-unfoldable pub allLetters : List ℕ → Bool
-allLetters [] = true
-allLetters (c ∷ cs) = isLetter c && allLetters cs
-
-abbrev pub isLabel : List ℕ → Bool
-isLabel w = allLetters w && (leb 1 (length w) && leb (length w) 16)
 
 -- a word as a term: a number, or else a label
 abbrev pub numberOr : Option ℕ → Option Term → Option Term

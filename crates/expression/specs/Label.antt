@@ -5,7 +5,7 @@ use mathlib.Core.List.{List, [], _∷_}
 use mathlib.Core.Option.{Option, none, some}
 use lib.Dec.{eqb}
 use lib.ListN.{drop}
-use Rattle.expression.specs.Token.{leadingWord}
+use Rattle.token.specs.Token.{leadingWord}
 
 -- two texts are the same
 unfoldable pub same : List ℕ → List ℕ → Bool

@@ -4,14 +4,18 @@ use mathlib.Core.List.{List}
 use mathlib.Core.Option.{Option, none, some}
 use mathlib.Core.Path.{_≡_}
 use lib.ListN.{length, drop}
-use Rattle.expression.specs.Grammar.{Parse, past, termAt, sumAt}
+use Rattle.expression.specs.Grammar.{Parse, parse, termAt, sumAt}
+use Rattle.token.specs.Token.{past, Token, tokens}
 use Rattle.expression.specs.Syntax.{Term, Sum}
 use Rattle.expression.specs.Label.{addressIn}
-use Rattle.expression.specs.Token.{Token, tokens}
 use Rattle.expression.specs.Types.{Sign, Value, Known, TooLarge, Unknown}
-use Rattle.expression.specs.Value.{bias, limit, nested, valueTerm, valueSum}
+use Rattle.expression.specs.Value.{bias, nested, valueTerm, valueSum}
+use Rattle.token.specs.Number.{limit}
 use Rattle.expression.specs.declared.expression.Parsed.{Parsed}
 use Rattle.expression.specs.declared.expression.Parsed.the-variants.{Read, Malformed}
+use Rattle.expression.specs.declared.sign.Lead.{Lead}
+use Rattle.expression.specs.declared.sign.SignAt.{SignAt}
+use Rattle.expression.specs.declared.sign.SignAt.the-variants as S
 use Rattle.expression.specs.declared.word.TermValue.{TermValue}
 use Rattle.expression.specs.declared.word.TermValue.the-variants.{Is, NoTerm}
 
@@ -33,6 +37,18 @@ TermInRange NoTerm = 0 ≤ 0
 abbrev pub termValueOf : (Term → Value) → Option Term → Option Value
 termValueOf f none = none
 termValueOf f (some t) = some (f t)
+
+-- a sign and the tokens behind it
+abbrev pub signed : List ℕ → SignAt → Option (Parse Sign)
+signed line (S.At s next) = parse s (tokens (drop next line))
+signed line S.NoSign = none
+
+abbrev pub SignAdvances : ℕ → ℕ → SignAt → Type 0
+SignAdvances at end (S.At s next) = (at < next) × (next ≤ end)
+SignAdvances at end S.NoSign = 0 ≤ 0
+
+abbrev pub leadOf : List ℕ → Lead → Parse Sign
+leadOf line l = record { value = l .sign; rest = tokens (drop (l .next) line) }
 
 -- a value and the tokens behind it
 abbrev pub parsedAs : List ℕ → Parsed → Option (Parse Value)

@@ -5,14 +5,12 @@ use mathlib.Core.List.{List}
 use mathlib.Core.Option.{Option, none, some}
 use lib.Dec.{eqb, ltb}
 use Rattle.expression.specs.Syntax.{Term, number, label, group, Sum, last, next, Expression}
+use Rattle.token.specs.Number.{limit}
 use Rattle.expression.specs.Types.{Sign, Plus, Minus, Value, Known, TooLarge, Unknown}
 
 -- A number is held with 2^32 added to it, so that it is never negative.
 abbrev pub bias : ℕ
 bias = 2 ^ 32
-
-abbrev pub limit : ℕ
-limit = 2 ^ 31
 
 -- "within plus or minus 2^31"
 unfoldable pub bounded : ℕ → Value

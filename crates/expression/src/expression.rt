@@ -1,18 +1,18 @@
 // Sums and terms: read and reckoned at once.
-use crate::token::Lead;
-use crate::token::Place;
-use crate::token::SignAt;
-use crate::token::Token;
-use crate::token::lead_at;
-use crate::token::past_mark;
-use crate::token::sign_at;
-use crate::token::token_at;
+use crate::sign::Lead;
+use crate::sign::SignAt;
+use crate::sign::lead_at;
+use crate::sign::sign_at;
 use crate::value::Sign;
 use crate::value::Value;
 use crate::value::nest;
 use crate::value::plus;
 use crate::word::TermValue;
 use crate::word::word_term;
+use token::Place;
+use token::Token;
+use token::past_mark;
+use token::token_at;
 ghost use Prim.Native.Nat.{_-_, _≤_, _<_};
 ghost use lib.ListN.{length, drop};
 ghost use mathlib.Core.Path.{_≡_};
@@ -22,7 +22,7 @@ ghost use Rattle.expression.specs.Label.{addressIn};
 ghost use Rattle.expression.specs.Reading.{InRange, ParsedInRange, Advances, AdvancesPast, TermRead};
 ghost use Rattle.expression.specs.Reading.{SumRead, parsedAs, grouped, wordValue, evaluated};
 ghost use Rattle.expression.specs.Value.{valueTerm, valueOf};
-ghost use Rattle.expression.specs.Token.{tokens};
+ghost use Rattle.token.specs.Token.{tokens};
 
 // A value and the place behind it.
 pub enum Parsed {
@@ -65,7 +65,7 @@ fn word_at(line: &[u8], source: &[u8], labels: &[u32], start: usize, stop: usize
         ⌝ }
     ensures ahead { λ r. ⌜ Advances start (length (now (line .entry))) r ⌝ }
 {
-    let t = word_term(source, labels, line, start, stop);
+    let t = word_term(source, labels, &line[start..stop]);
     match t {
         TermValue::Is(value) => Parsed::Read(value, stop),
         TermValue::NoTerm => Parsed::Malformed,

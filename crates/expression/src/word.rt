@@ -1,93 +1,23 @@
 // Words as terms: numbers and labels.
-use crate::byte::digit_of;
-use crate::byte::is_letter;
-use crate::token::past_run;
 use crate::value::Value;
 use crate::value::bound;
-ghost use Prim.Native.Nat.{_+_, _-_, _*_, _≤_, _<_};
+use token::Number;
+use token::is_label;
+use token::number_of;
+use token::past_run;
+ghost use Prim.Native.Nat.{_+_, _≤_};
 ghost use mathlib.Core.Path.{_≡_};
-ghost use lib.ListN.{length, drop};
+ghost use lib.ListN.{drop};
 ghost use lib.Seq.{slice};
-ghost use Rattle.expression.specs.Number.{number as Number·number, numeral};
-ghost use Rattle.expression.specs.Grammar.{allLetters, isLabel, wordTerm};
+ghost use Rattle.token.specs.Token.{leadingWord};
+ghost use Rattle.expression.specs.Grammar.{wordTerm};
 ghost use Rattle.expression.specs.Label.{addressIn, same};
 ghost use Rattle.expression.specs.Reading.{termValued, termValueOf, TermInRange, InRange};
-ghost use Rattle.expression.specs.Token.{leadingWord};
 ghost use Rattle.expression.specs.Value.{valueTerm, labelValue, bounded, bias};
-ghost use Rattle.expression.specs.Word.{cap, capped, numbered};
-
-// A number, 2^31 + 1 for every larger one.
-pub enum Number {
-    Is(u64),
-    NoNumber,
-}
 
 pub enum TermValue {
     Is(Value),
     NoTerm,
-}
-
-// A number with one digit more.
-fn with_digit(n: u64, base: u64, d: u64) -> u64
-    requires { ⌜ (n ≤ 0x80000001) × (base ≤ 16) × (d < base) ⌝ }
-    ensures { λ r. ⌜ r ≡ cap (n * base + d) ⌝ }
-{
-    let more = n * base + d;
-    if 0x80000000 < more {
-        return 0x80000001;
-    }
-    more
-}
-
-// The number that digits of a base are.
-fn numeral_at(line: &[u8], start: usize, stop: usize, base: u64) -> Number
-    requires { do ⌜ (stop ≤ (← ⟦line.len()⟧)) × (base ≤ 16) × (1 < base) ⌝ }
-    ensures { λ r. ⌜ numbered r ≡ capped (numeral base (slice start stop (now (line .entry)))) ⌝ }
-{
-    if stop <= start {
-        return Number::NoNumber;
-    }
-    let mut n: u64 = 0;
-    let mut i = start;
-    while i < stop {
-        let d = digit_of(line[i]);
-        if base <= d {
-            return Number::NoNumber;
-        }
-        n = with_digit(n, base, d);
-        i += 1;
-    }
-    Number::Is(n)
-}
-
-// The number that a word is.
-fn number_at(line: &[u8], start: usize, stop: usize) -> Number
-    requires { do ⌜ (stop ≤ (← ⟦line.len()⟧)) × (start < stop) ⌝ }
-    ensures { λ r. ⌜ numbered r ≡ capped (Number·number (slice start stop (now (line .entry)))) ⌝ }
-{
-    if stop - start < 2 {
-        return numeral_at(line, start, stop, 10);
-    }
-    let hex = (line[start] == 48) & (line[start + 1] == 120);
-    if hex {
-        return numeral_at(line, start + 2, stop, 16);
-    }
-    numeral_at(line, start, stop, 10)
-}
-
-// Whether a word has letters only.
-fn letters(line: &[u8], start: usize, stop: usize) -> bool
-    requires { do ⌜ stop ≤ (← ⟦line.len()⟧) ⌝ }
-    ensures { λ r. ⌜ r ≡ allLetters (slice start stop (now (line .entry))) ⌝ }
-{
-    let mut i = start;
-    while i < stop {
-        if !is_letter(line[i]) {
-            return false;
-        }
-        i += 1;
-    }
-    true
 }
 
 // Whether a word is the one that stands in the source from a place on.
@@ -152,40 +82,24 @@ fn bound_up(n: usize) -> Value
 }
 
 // A word as a term.
-pub fn word_term(source: &[u8], labels: &[u32], line: &[u8], start: usize, stop: usize) -> TermValue
-    requires { do ⌜ (stop ≤ (← ⟦line.len()⟧)) × (start < stop) ⌝ }
+pub fn word_term(source: &[u8], labels: &[u32], word: &[u8]) -> TermValue
     ensures value { λ r. ⌜
         termValued r
         ≡ termValueOf (valueTerm (addressIn (now (source .entry)) (now (labels .entry))) 0)
-        (wordTerm (slice start stop (now (line .entry))))
+        (wordTerm (now (word .entry)))
         ⌝ }
     ensures held { λ r. ⌜ TermInRange r ⌝ }
 {
-    let number = number_at(line, start, stop);
+    let number = number_of(word);
     match number {
         Number::Is(n) => TermValue::Is(bound_up(n as usize)),
         Number::NoNumber => {
-            let is_label = letters(line, start, stop) & (1 <= stop - start) & (stop - start <= 16);
-            if is_label {
-                return TermValue::Is(label_at(source, labels, line, start, stop));
+            if is_label(word) {
+                return TermValue::Is(value_of_label(source, labels, word));
             }
             TermValue::NoTerm
         }
     }
-}
-
-// The decimal number that a word is.
-pub fn decimal(word: &[u8]) -> Number
-    ensures { λ r. ⌜ numbered r ≡ capped (numeral 10 (now (word .entry))) ⌝ }
-{
-    numeral_at(word, 0, word.len(), 10)
-}
-
-// Whether a word may be a label.
-pub fn is_label(word: &[u8]) -> bool
-    ensures { λ r. ⌜ r ≡ isLabel (now (word .entry)) ⌝ }
-{
-    letters(word, 0, word.len()) & ((1 <= word.len()) & (word.len() <= 16))
 }
 
 // The value of the label that a word is.

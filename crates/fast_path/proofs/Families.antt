@@ -6,7 +6,7 @@ use mathlib.Core.Path.{_≡_, refl, sym, ap, _∙_}
 use native.Mathlib.Omega.{arith}
 use borrow.Author.Tests.{eq-eqb, lt-ltb}
 use Rattle.alu.specs.Binary.{binary}
-use Rattle.alu.specs.Compare.{compare}
+use Rattle.ordering.specs.Compare.{compare}
 use Rattle.alu.specs.Unary.{unary}
 use Rattle.isa.proofs.Both.{and-both}
 use Rattle.word_layout.specs.Layout.{bits, signed}

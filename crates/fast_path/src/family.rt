@@ -69,7 +69,7 @@ pub fn compare_r(regs: &[u32], t: usize, w: u32, op: CompareOp) -> Action
     }
     let x = registers::operand_a(regs, t, w);
     let y = registers::operand_b(regs, t, w);
-    Action::Write(number(alu::compare(op, x, y)))
+    Action::Write(number(ordering::compare(op, x, y)))
 }
 
 pub fn compare_i(regs: &[u32], t: usize, w: u32, op: CompareOp) -> Action
@@ -81,7 +81,7 @@ pub fn compare_i(regs: &[u32], t: usize, w: u32, op: CompareOp) -> Action
     }
     let x = registers::operand_a(regs, t, w);
     let y = word_layout::short_signed(w);
-    Action::Write(number(alu::compare(op, x, y)))
+    Action::Write(number(ordering::compare(op, x, y)))
 }
 
 fn replace(op: MoveiOp, old: u32, n: u32) -> u32

@@ -7,7 +7,7 @@ ghost use Rattle.execution.specs.Issue.{fits, issue, issueSetsStatus};
 ghost use Rattle.execution.specs.Jump.{inProgram};
 ghost use Rattle.execution.specs.Registers.{InRegisters};
 ghost use Rattle.isa.specs.Table.{rowM};
-ghost use Rattle.machine.specs.Machine.{manyMore};
+ghost use Rattle.thread_entry.specs.Entry.{manyMore};
 ghost use Rattle.machine.specs.State.{state};
 ghost use Rattle.fast_path.specs.Action.{HasOpcode, GoesBy, TriedStore, TriedWord, TriedIssue};
 ghost use Rattle.fast_path.specs.Types.{Jump, Store};
@@ -172,6 +172,6 @@ pub fn issue(
             changed: false,
         };
     }
-    let had = machine::many_more(turns_of(turns, thread), more);
+    let had = thread_entry::many_more(turns_of(turns, thread), more);
     execution::issue(program, registers, memory, machine, thread, had)
 }

@@ -5,7 +5,7 @@ ghost use lib.ListN.{length};
 use interpreter::Run;
 use interpreter::RunAnswer;
 use libc::STDOUT_FILENO;
-use machine::Status;
+use thread_entry::Status;
 
 fn say(text: &[u8]) {
     io::write_all(STDOUT_FILENO, text);

@@ -10,7 +10,7 @@ use Rattle.image.specs.Claims.{Exact}
 use Rattle.answer.specs.Answer.{given, refused}
 use Rattle.image.specs.Fields.{statusFields, fieldsOf, statusOf, sameFields, checkedThread, threadOf}
 use Rattle.image.specs.Types.{Status, Idle, Running, Ended, Trapped, Waiting, ThreadFields}
-use Rattle.machine.specs.Machine.{entryOf}
+use Rattle.thread_entry.specs.Entry.{entryOf}
 
 -- the numbers of a status name it
 named : (s : Status) (turns : ℕ) → statusOf (statusFields s turns) ≡ some s

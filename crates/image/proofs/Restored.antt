@@ -1,5 +1,5 @@
 -- What was read is written back: the state of an accepted image has that image.
-use Prim.Native.Nat.{ℕ, zero, suc, _+_, _*_, _/_, _%_, _≤_, _<_, _^_}
+use Prim.Native.Nat.{ℕ, zero, suc, _+_, _*_, _/_, _%_, _≤_, _<_}
 use mathlib.Core.Bool.{Bool, true, false}
 use mathlib.Core.List.{List, [], _∷_, _++_, map}
 use mathlib.Core.Path.{_≡_, refl, sym, ap, _∙_}
@@ -18,7 +18,8 @@ use Rattle.image_layout.proofs.Rows.{threads}
 use Rattle.image.proofs.Numbers.{exact, turns-of}
 use Rattle.machine.proofs.Tests.{never}
 use Rattle.image.specs.Fields.{fieldsOf, threadOf}
-use Rattle.machine.specs.Machine.{zeroThread, turnsAt, turnsOf}
+use Rattle.thread_entry.specs.Entry.{zeroThread}
+use Rattle.machine.specs.Machine.{turnsAt, turnsOf}
 use borrow.Author.Tests.{eq-eqb}
 use lib.Dec.{eqb}
 use Rattle.little_endian.specs.Numbers.{numberAt, numberBytes, bytesOf, wordsOf}

@@ -1,5 +1,5 @@
 -- Writing then reading, reading then writing, and which images are accepted.
-use Prim.Native.Nat.{ℕ, zero, suc, _/_, _<_}
+use Prim.Native.Nat.{ℕ, suc, _/_, _<_}
 use mathlib.Core.Bool.{Bool, true, false, not, and-eq-true-iff}
 use mathlib.Core.List.{List, [], _∷_}
 use mathlib.Core.Option.{Option, none, some}
@@ -10,9 +10,10 @@ use borrow.Author.Tests.{eqb-true, not-false}
 use lib.Dec.{eqb}
 use lib.ListN.{length, getD}
 use Rattle.answer.specs.Answer.{Answer, given, refused}
-use Rattle.answer.specs.Refusal.{fixedPart, imageLength, sizesNumber, refusedOr}
+use Rattle.answer.specs.Refusal.{imageLength, sizesNumber, refusedOr}
 use Rattle.machine.specs.State.{State, state}
-use Rattle.machine.specs.Machine.{entryOf, zeroThread, zeroed, turnsAt, turnsOf, withCounts, withTurns}
+use Rattle.thread_entry.specs.Entry.{entryOf, zeroThread}
+use Rattle.machine.specs.Machine.{zeroed, turnsAt, turnsOf, withCounts}
 use Rattle.machine.specs.WellFormed.{wellFormed}
 use Rattle.image_layout.proofs.Tests.{all-elim}
 use Rattle.image_layout.specs.Join.{allBelow}

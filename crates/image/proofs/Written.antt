@@ -19,9 +19,10 @@ use Rattle.image_layout.proofs.Rows.{threads}
 use Rattle.image_layout.specs.Layout.{threadRow, rowOf, bodyIn, headsIn}
 use Rattle.image.proofs.Numbers.{exact, turns-of}
 use Rattle.image.specs.Fields.{fields, statusFields, fieldsOf}
-use Rattle.machine.specs.Machine.{entryOf, zeroThread, statusAt, withCount, turnsOf}
+use Rattle.thread_entry.specs.Entry.{entryOf, zeroThread, withCount}
+use Rattle.machine.specs.Machine.{turnsOf}
 use Rattle.machine.proofs.Claims.{tested, counts-kept, counts-unseen}
-use Rattle.machine.specs.Status.{limits}
+use Rattle.thread_entry.specs.Status.{limits}
 use Rattle.machine.specs.WellFormed.{wellFormed}
 use Rattle.little_endian.proofs.Numbers.{past-end, behind, word-back}
 use Rattle.little_endian.specs.Numbers.{numberAt, numberBytes, bytesOf, wordsOf}

@@ -4,7 +4,7 @@ use mathlib.Core.Bool.{Bool, _&&_, cond}
 use mathlib.Core.Option.{Option, none, some}
 use lib.Dec.{eqb}
 use Rattle.answer.specs.Answer.{Answer, given, refused, bad-record}
-use Rattle.machine.specs.Machine.{entryOf}
+use Rattle.thread_entry.specs.Entry.{entryOf}
 use Rattle.image.specs.Types.{Status, Idle, Running, Ended, Trapped, Waiting, Thread, ThreadFields}
 
 -- the five numbers, by their places

@@ -8,7 +8,8 @@ use Rattle.answer.specs.Answer.{Answer, given, refused}
 use Rattle.answer.specs.Refusal.{registerWords}
 use Rattle.machine.specs.State.{scalarIndex, laneIndex}
 use Rattle.machine.specs.State.{State, state}
-use Rattle.machine.specs.Machine.{zeroThread, withTurns}
+use Rattle.thread_entry.specs.Entry.{zeroThread}
+use Rattle.machine.specs.Machine.{withTurns}
 use Rattle.machine.specs.WellFormed.{wellFormed}
 use Rattle.image_layout.specs.Join.{concatBelow, allBelow}
 use Rattle.image_layout.specs.Layout.{ofBlocks, rowOf, laidOut, bodyIn}

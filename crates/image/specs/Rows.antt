@@ -8,7 +8,8 @@ use mathlib.Core.Path.{_≡_}
 use lib.ListN.{replicate, set, take}
 use mathlib.Core.Bool.{true, false}
 use Rattle.machine.specs.State.{state}
-use Rattle.machine.specs.Machine.{entryOf, counted, zeroed, start}
+use Rattle.thread_entry.specs.Entry.{entryOf}
+use Rattle.machine.specs.Machine.{counted, zeroed, start}
 use Rattle.image_layout.specs.Layout.{ofBlocks, recordKinds, headOf, rowOf, laidUpTo}
 use Rattle.little_endian.specs.Numbers.{bytesOf}
 use Rattle.image.specs.Image.{bodyOf}

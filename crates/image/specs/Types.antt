@@ -14,6 +14,6 @@ pub use Rattle.image.specs.declared.outcome.ReadAnswer.{ReadAnswer}
 pub use Rattle.image.specs.declared.outcome.ReadAnswer.the-variants.{Restored, Refused as ReadRefused}
 pub use Rattle.image.specs.declared.outcome.Read.{Read}
 pub use Rattle.machine.specs.declared.record.Machine.{Machine}
-pub use Rattle.machine.specs.declared.status.Status.{Status}
-pub use Rattle.machine.specs.declared.status.Status.the-variants.{Idle, Running, Ended, Trapped, Waiting}
-pub use Rattle.machine.specs.declared.status.Thread.{Thread}
+pub use Rattle.thread_entry.specs.declared.status.Status.{Status}
+pub use Rattle.thread_entry.specs.declared.status.Status.the-variants.{Idle, Running, Ended, Trapped, Waiting}
+pub use Rattle.thread_entry.specs.declared.status.Thread.{Thread}

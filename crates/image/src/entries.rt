@@ -19,8 +19,8 @@ use image_layout::first_body;
 use image_layout::record_size;
 use image_layout::row_of;
 use machine::Machine;
-use machine::Status;
-use machine::Thread;
+use thread_entry::Status;
+use thread_entry::Thread;
 
 // The eight entries, and whether all of them could be read.
 pub struct Entries {
@@ -114,7 +114,7 @@ pub fn record_in(shape: Shape, image: &[u8]) -> Record
         last: image[at],
         threads,
     };
-    let well_formed = machine.well_formed();
+    let well_formed = well_formedness::well_formed(machine);
     Record {
         accepted: entries.read & well_formed,
         machine,

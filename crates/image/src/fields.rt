@@ -3,8 +3,8 @@ ghost use mathlib.Core.Option.{some};
 ghost use mathlib.Core.Path.{_≡_};
 ghost use Rattle.image.specs.Answer.{entryAnswered};
 ghost use Rattle.image.specs.Fields.{fields, sameFields, fieldsOf, checkedThread, threadOf};
-use machine::Status;
-use machine::Thread;
+use thread_entry::Status;
+use thread_entry::Thread;
 
 // The numbers of an entry, 0 where its status does not carry them; every entry has a count of turns.
 pub struct ThreadFields {

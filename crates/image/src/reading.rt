@@ -22,7 +22,6 @@ use image_layout::fixed_part;
 use image_layout::form_of;
 use image_layout::record_size;
 use image_layout::row_of;
-use machine::Machine;
 
 // The words of every record of a kind, n in each, stored from a place on.
 fn take_bodies(shape: Shape, kind: Kind, n: usize, image: &[u8], registers: &mut [u32], from: usize)
@@ -100,7 +99,7 @@ pub fn read(image: &[u8], registers: &mut [u32], memory: &mut [u8]) -> Read
     match sizes {
         Verdict::Refused(number) => Read {
             answer: ReadAnswer::Refused(number),
-            machine: Machine::zero(),
+            machine: run_record::zero(),
         },
         Verdict::Accepted => {
             let shape = Shape {

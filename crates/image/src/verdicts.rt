@@ -29,7 +29,7 @@ fn refuse(number: u8) -> Judgement
 {
     Judgement {
         verdict: Verdict::Refused(number),
-        machine: Machine::zero(),
+        machine: run_record::zero(),
     }
 }
 
@@ -87,7 +87,7 @@ fn loses_counts(form: Form, dropping: bool, machine: Machine) -> bool
 pub fn judge_record(form: Form, dropping: bool, machine: Machine) -> Verdict
     ensures { λ r. ⌜ numberOf r ≡ recordNumber form dropping machine ⌝ }
 {
-    let well_formed = machine.well_formed();
+    let well_formed = well_formedness::well_formed(machine);
     let loses = loses_counts(form, dropping, machine);
     if !well_formed {
         return Verdict::Refused(4);

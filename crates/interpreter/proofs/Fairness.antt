@@ -16,7 +16,7 @@ use Rattle.machine.specs.Claims.{FirstAfterLast}
 use Rattle.bits.specs.Bit.{bit}
 use Rattle.machine.specs.Machine.{countThreads}
 use Rattle.machine.specs.Scheduler.{runs, after, choice}
-use Rattle.machine.specs.Status.{limits}
+use Rattle.thread_entry.specs.Status.{limits}
 use Rattle.machine.specs.WellFormed.{wellFormed}
 use Rattle.interpreter.specs.Choosing.{Issue, ifChosen, issued, issues, reached}
 use Rattle.interpreter.specs.Claims.{SomeEnabled, EightAtMost, Begun, RecordHandedOn, issuesOf, TurnsFair}

@@ -8,7 +8,8 @@ use lib.ListN.{length, getD, set}
 use Rattle.answer.specs.Answer.{given}
 use Rattle.execution.proofs.Claims.{performs, untouched, recounts, issues as execution-issues}
 use Rattle.execution.specs.Issue.{perform, issue, issueSetsStatus}
-use Rattle.machine.specs.Machine.{turnsAt, oneMore, manyMore}
+use Rattle.thread_entry.specs.Entry.{oneMore, manyMore}
+use Rattle.machine.specs.Machine.{turnsAt}
 use Rattle.machine.specs.Rounds.{afterRounds}
 use Rattle.machine.specs.State.{State, state, countedIn, recounted}
 use Rattle.machine.proofs.Claims.{chooses, issues as machine-issues, counts-kept, counts-unseen, counting, rounds-counted}

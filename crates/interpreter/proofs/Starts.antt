@@ -9,7 +9,8 @@ use lib.ListN.{length, getD, set, replicate, length-set, length-map, List·getD-
 use lib.Seq.{getD-set-same, getD-set-other}
 use Rattle.answer.specs.Answer.{given, refused}
 use Rattle.machine.proofs.Claims.{started}
-use Rattle.machine.specs.Machine.{zeroThread, turnsAt, zeroed, start as startRecord}
+use Rattle.thread_entry.specs.Entry.{zeroThread}
+use Rattle.machine.specs.Machine.{turnsAt, zeroed, start as startRecord}
 use Rattle.interpreter.specs.Claims.{Starts, StartsUncounted, StartRegisters}
 use Rattle.answer.specs.Refusal.{refusedOr}
 use Rattle.interpreter.specs.Refusal.{startNumber}

@@ -19,13 +19,18 @@ use answer::first_refusal;
 use answer::lengths_verdict;
 use machine::Choice;
 use machine::Machine;
+use run_record::some_waits;
+use run_record::with_last;
+use turn_counts::count_rounds;
+use turn_counts::with_turns;
+use well_formedness::well_formed;
 
 // The number that a machine record is refused with, if any.
 fn record_verdict(machine: Machine) -> Verdict
     ensures { λ r. ⌜ numberOf r ≡ recordNumber machine ⌝ }
 {
-    let well_formed = machine.well_formed();
-    if well_formed {
+    let fine = well_formed(machine);
+    if fine {
         return Verdict::Accepted;
     }
     Verdict::Refused(4)
@@ -59,7 +64,7 @@ fn ended(machine: Machine, running: bool, made: u32, looks: u64) -> Run
         (answered (r .answer) ≡ given (cond running spent (idleEnding machine))) × (r .issues ≡ made) × (r .looks ≡ looks) × (r .machine ≡ machine)
         ⌝ }
 {
-    let waits = machine.some_waits();
+    let waits = some_waits(machine);
     Run {
         answer: answer_of(running, waits),
         issues: made,
@@ -101,7 +106,7 @@ fn make_stretch(
     let mut passed: u64 = 0;
     let mut last = machine.last;
     loop {
-        let at = machine.with_last(last);
+        let at = with_last(machine, last);
         let turn = at.choose();
         let choice = turn.choice;
         let next = turn.machine;
@@ -171,17 +176,17 @@ fn make_issues(
 {
     let mut left = budget;
     let mut looks: u64 = 0;
-    let mut turns = machine.turns();
+    let mut turns = turn_counts::turns(machine);
     loop {
         let stretch = make_stretch(program, registers, memory, machine, &turns, left);
         let changed = stretch.changed;
-        turns = machine.count_rounds(turns, stretch.passed);
+        turns = count_rounds(machine, turns, stretch.passed);
         machine = stretch.machine;
         left = stretch.left;
         looks += stretch.looks;
         if !changed {
             return ended(
-                machine.with_turns(turns),
+                with_turns(machine, turns),
                 stretch.running,
                 budget - left,
                 looks,

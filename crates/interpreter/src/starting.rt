@@ -11,7 +11,6 @@ use answer::Verdict;
 use answer::bad_mask;
 use answer::bad_registers;
 use machine::LANE_MASK;
-use machine::Machine;
 
 // The number that a start is refused with, if any: of its mask, and of the words of its register file.
 fn start_verdict(mask: u32, regs: usize) -> Verdict
@@ -55,14 +54,14 @@ pub fn start(mask: u32, registers: &mut [u32]) -> Start
     match verdict {
         Verdict::Refused(number) => Start {
             answer: StartAnswer::Refused(number),
-            machine: Machine::zero(),
+            machine: run_record::zero(),
         },
         Verdict::Accepted => {
             clear(registers);
             set_masks(registers);
             Start {
                 answer: StartAnswer::Started,
-                machine: Machine::started(mask as u8),
+                machine: run_record::started(mask as u8),
             }
         }
     }

@@ -11,8 +11,9 @@ use lib.ListN.{length, length-map, List·getD-map}
 use Rattle.bits.specs.Bit.{bit}
 use Rattle.machine.specs.Barrier.{released, release, releaseIfMet, arrive, refusesBarrier, reachBarrier}
 use Rattle.machine.specs.Claims.{WellFormed, KeepsRecord, ReachesBarrier}
-use Rattle.machine.specs.Machine.{zeroThread, statusAt, withStatus, withStatusAt, trap}
-use Rattle.machine.specs.Status.{limits, isIdle, isRunning, isWaiting, waitsAt, carriesInRange}
+use Rattle.thread_entry.specs.Entry.{zeroThread, withStatus}
+use Rattle.machine.specs.Machine.{statusAt, withStatusAt, trap}
+use Rattle.thread_entry.specs.Status.{limits, isIdle, isRunning, isWaiting, waitsAt, carriesInRange}
 use Rattle.machine.specs.WellFormed.{waiting, disputed}
 use Rattle.machine.specs.Scheduler.{runs}
 use Rattle.machine.specs.Types.{Status, Idle, Running, Ended, Trapped, Waiting, Machine, BarrierResult}

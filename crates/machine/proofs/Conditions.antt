@@ -10,8 +10,9 @@ use lib.Dec.{leb, ltb, eqb}
 use lib.ListN.{length, List·getD-eq-default}
 use Rattle.bits.specs.Bit.{bit}
 use Rattle.machine.specs.Claims.{WellFormedWithin, Tested}
-use Rattle.machine.specs.Machine.{allThreads, zeroThread, statusAt}
-use Rattle.machine.specs.Status.{isIdle, waitsOtherwise, carriesInRange, ifWaiting}
+use Rattle.thread_entry.specs.Entry.{zeroThread}
+use Rattle.machine.specs.Machine.{allThreads, statusAt}
+use Rattle.thread_entry.specs.Status.{isIdle, waitsOtherwise, carriesInRange, ifWaiting}
 use Rattle.machine.specs.WellFormed.{waiting, disputed, numbersInRange, idleIfDisabled, countAgreed, fewerWait, wellFormedWithin}
 use Rattle.machine.specs.Types.{Limits, Status, Idle, Running, Ended, Trapped, Waiting, Machine}
 use Rattle.machine.proofs.Meetings.{disputes}

@@ -10,8 +10,9 @@ use lib.ListN.{length, getD, set, length-set, List·getD-eq-default}
 use lib.Seq.{getD-set-same, getD-set-other, map-set-same}
 use Rattle.bits.specs.Bit.{bit}
 use Rattle.machine.specs.Claims.{WellFormed, KeepsRecord, Traps, Ends, Issued, RunningEnabled}
-use Rattle.machine.specs.Machine.{zeroThread, statusAt, withStatus, withStatusAt, turnsOf, trap, end}
-use Rattle.machine.specs.Status.{limits, isIdle, isRunning, isWaiting, waitsAt, carriesInRange}
+use Rattle.thread_entry.specs.Entry.{zeroThread, withStatus}
+use Rattle.machine.specs.Machine.{statusAt, withStatusAt, turnsOf, trap, end}
+use Rattle.thread_entry.specs.Status.{limits, isIdle, isRunning, isWaiting, waitsAt, carriesInRange}
 use Rattle.machine.specs.WellFormed.{waiting}
 use Rattle.machine.specs.Scheduler.{runs, withLast}
 use Rattle.machine.specs.Types.{Status, Idle, Running, Ended, Trapped, Waiting, Machine}

@@ -4,7 +4,6 @@ pub mod Loops
 pub mod Threads
 pub mod Nearest
 pub mod Choosing
-pub mod Entries
 pub mod Conditions
 pub mod Kept
 pub mod Turns

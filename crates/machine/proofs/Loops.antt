@@ -9,7 +9,8 @@ use borrow.Author.Tests.{eqb-true, eqb-false, ltb-true, ltb-false}
 use lib.Dec.{eqb, ltb}
 use lib.ListN.{length, getD, set}
 use lib.Seq.{set-getD, set-out}
-use Rattle.machine.specs.Machine.{anyThread, countThreads, zeroThread, statusAt, withStatus, withStatusAt, withCount, withCounts}
+use Rattle.thread_entry.specs.Entry.{zeroThread, withStatus, withCount}
+use Rattle.machine.specs.Machine.{anyThread, countThreads, statusAt, withStatusAt, withCounts}
 use Rattle.machine.specs.Search.{any, count}
 use Rattle.machine.specs.Types.{Status, Thread, Machine}
 

@@ -6,7 +6,7 @@ use borrow.Author.Tests.{ltb-false}
 use lib.Dec.{ltb, eqb}
 use Rattle.machine.specs.Barrier.{refusesBarrier}
 use Rattle.machine.specs.Machine.{statusAt}
-use Rattle.machine.specs.Status.{isWaiting, waitsAt, waitsOtherwise}
+use Rattle.thread_entry.specs.Status.{isWaiting, waitsAt, waitsOtherwise}
 use Rattle.machine.specs.WellFormed.{disputed}
 use Rattle.machine.specs.Types.{Status, Idle, Running, Ended, Trapped, Waiting, Machine}
 use Rattle.machine.proofs.Tests.{never, neither}

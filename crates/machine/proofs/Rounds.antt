@@ -1,12 +1,12 @@
 -- While no status is set turns go round: the counts follow from how many entries the chooser passed.
-use Prim.Native.Nat.{ℕ, zero, suc, _+_, _-_, _/_, _%_, _^_, _<_, _≤_}
+use Prim.Native.Nat.{ℕ, zero, suc, _+_, _-_, _/_, _%_, _<_, _≤_}
 use mathlib.Core.Bool.{Bool, true, false, cond}
 use mathlib.Core.List.{List, [], _∷_}
 use mathlib.Core.Path.{_≡_, refl, sym, ap, _∙_}
 use native.Mathlib.Omega.{arith}
 use lib.ListN.{length, getD, set}
 use Rattle.machine.specs.Claims.{RoundsCounted}
-use Rattle.machine.specs.Machine.{oneMore, manyMore}
+use Rattle.thread_entry.specs.Entry.{oneMore, manyMore}
 use Rattle.machine.specs.Rounds.{between, issuesWithin, withIssues}
 use Rattle.machine.specs.Scheduler.{runs, choice, withLast}
 use Rattle.machine.specs.Types.{Machine, Chosen}
@@ -14,11 +14,6 @@ use Rattle.machine.proofs.Choosing.{chooses}
 use Rattle.machine.proofs.Tests.{never}
 
 -- Counts.
-
-pub many-more : (n turns : ℕ) → turns < 2 ^ 32 → manyMore n turns ≡ (turns + n) % 2 ^ 32
-unfolding manyMore
-many-more zero turns l = omega arith
-many-more (suc n) turns l = let e = many-more n turns l in omega arith
 
 with-length : (f : ℕ → ℕ) (turns : List ℕ) → length (withIssues f turns) ≡ length turns
 unfolding withIssues

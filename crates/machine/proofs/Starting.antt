@@ -10,8 +10,9 @@ use lib.Dec.{eqb}
 use lib.ListN.{length, getD}
 use Rattle.bits.specs.Bit.{bit}
 use Rattle.machine.specs.Claims.{Started}
-use Rattle.machine.specs.Machine.{zeroThread, statusAt, withStatus, startStatus, start}
-use Rattle.machine.specs.Status.{limits, isIdle, isRunning, isWaiting}
+use Rattle.thread_entry.specs.Entry.{zeroThread, withStatus}
+use Rattle.machine.specs.Machine.{statusAt, startStatus, start}
+use Rattle.thread_entry.specs.Status.{limits, isIdle, isRunning, isWaiting}
 use Rattle.machine.specs.Types.{Status, Idle, Running, Trapped, Waiting, Thread}
 use Rattle.machine.proofs.Conditions.{is-thread, tested}
 use Rattle.machine.proofs.Loops.{from}

@@ -11,10 +11,11 @@ use lib.ListN.{length, getD, set, length-map, length-set, List·getD-map}
 use lib.Seq.{map-set-same, getD-set-same, getD-set-other}
 use Rattle.machine.specs.Barrier.{released, release, releaseIfMet, arrive, refusesBarrier, reachBarrier}
 use Rattle.machine.specs.Claims.{CountsKept, CountsUnseen, CountsApart, Counting}
-use Rattle.machine.specs.Machine.{anyThread, countThreads, zeroThread, statusAt, turnsAt, withStatus, withCount, withStatusAt, oneMore, counted, turnsOf, withCounts, withTurns, trap}
+use Rattle.thread_entry.specs.Entry.{zeroThread, withStatus, withCount, oneMore}
+use Rattle.machine.specs.Machine.{anyThread, countThreads, statusAt, turnsAt, withStatusAt, counted, turnsOf, withCounts, withTurns, trap}
 use Rattle.machine.specs.Scheduler.{runs, after, distances, chosenAt, choice, someWaits}
 use Rattle.machine.specs.Search.{first}
-use Rattle.machine.specs.Status.{limits, isRunning, isWaiting, waitsAt, waitsOtherwise}
+use Rattle.thread_entry.specs.Status.{limits, isRunning, isWaiting, waitsAt, waitsOtherwise}
 use Rattle.machine.specs.Types.{Status, Idle, Trapped, Waiting, Thread, Machine, BarrierResult}
 use Rattle.machine.specs.WellFormed.{waiting, disputed, wellFormed}
 use Rattle.machine.proofs.Conditions.{tested}

@@ -5,8 +5,9 @@ use mathlib.Core.List.{map}
 use mathlib.Core.Path.{_≡_}
 use lib.Dec.{ltb, eqb}
 use Rattle.answer.specs.Reason.{barrier-refused}
-use Rattle.machine.specs.Machine.{countThreads, statusAt, withStatus, withStatusAt, trap}
-use Rattle.machine.specs.Status.{limits, waitsAt}
+use Rattle.thread_entry.specs.Entry.{withStatus}
+use Rattle.machine.specs.Machine.{countThreads, statusAt, withStatusAt, trap}
+use Rattle.thread_entry.specs.Status.{limits, waitsAt}
 use Rattle.machine.specs.Types.{Status, Running, Waiting, Machine, BarrierResult}
 use Rattle.machine.specs.WellFormed.{waiting, disputed}
 

@@ -7,10 +7,11 @@ use mathlib.Core.Path.{_≡_}
 use lib.ListN.{length, getD, set}
 use Rattle.bits.specs.Bit.{bit}
 use Rattle.machine.specs.Barrier.{reachBarrier}
-use Rattle.machine.specs.Machine.{statusAt, withStatusAt, oneMore, manyMore, counted, turnsAt, turnsOf, withTurns, trap, end, start}
+use Rattle.thread_entry.specs.Entry.{oneMore, manyMore}
+use Rattle.machine.specs.Machine.{statusAt, withStatusAt, counted, turnsAt, turnsOf, withTurns, trap, end, start}
 use Rattle.machine.specs.Rounds.{afterRounds}
 use Rattle.machine.specs.Scheduler.{runs, after, choice, withLast, afterChoice, choose, someWaits}
-use Rattle.machine.specs.Status.{limits}
+use Rattle.thread_entry.specs.Status.{limits}
 use Rattle.machine.specs.Types.{Limits, Status, Idle, Trapped, Waiting, Machine, Choice, Chosen, NoneRunning, Turn}
 use Rattle.machine.specs.WellFormed.{waiting, wellFormedWithin, wellFormed}
 

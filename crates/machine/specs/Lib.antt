@@ -1,7 +1,6 @@
 -- The machine record: what the contracts cite.
 pub mod Types
 pub mod Search
-pub mod Status
 pub mod Machine
 pub mod State
 pub mod WellFormed

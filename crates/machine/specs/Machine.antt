@@ -1,10 +1,11 @@
 -- The machine record: its eight threads, what it begins as, and what changes in it (document 01, "What a machine holds").
-use Prim.Native.Nat.{ℕ, zero, suc, _+_, _%_, _^_}
+use Prim.Native.Nat.{ℕ}
 use mathlib.Core.Bool.{Bool, cond}
 use mathlib.Core.List.{List, [], _∷_, map}
 use lib.Dec.{eqb}
 use lib.ListN.{getD, set, replicate}
 use Rattle.bits.specs.Bit.{bit}
+use Rattle.thread_entry.specs.Entry.{zeroThread, withStatus, withCount, oneMore}
 use Rattle.machine.specs.Search.{all, any, count}
 use Rattle.machine.specs.Types.{Status, Idle, Running, Ended, Trapped, Thread, Machine}
 
@@ -21,14 +22,6 @@ anyThread p = any p threadNumbers
 unfoldable pub countThreads : (ℕ → Bool) → ℕ
 countThreads p = count p threadNumbers
 
--- an entry: its status, and how many turns the thread has had
-abbrev pub entryOf : Status → ℕ → Thread
-entryOf status turns = record { status = status; turns = turns }
-
--- an entry with every number 0
-abbrev pub zeroThread : Thread
-zeroThread = entryOf Idle 0
-
 -- the status of a thread, idle where there is no such thread, and its count of turns, then 0
 abbrev pub statusAt : Machine → ℕ → Status
 statusAt m t = getD (m .threads) t zeroThread .status
@@ -36,28 +29,12 @@ statusAt m t = getD (m .threads) t zeroThread .status
 abbrev pub turnsAt : Machine → ℕ → ℕ
 turnsAt m t = getD (m .threads) t zeroThread .turns
 
--- an entry with another status, or another count
-abbrev pub withStatus : Thread → Status → Thread
-withStatus entry status = entryOf status (entry .turns)
-
-abbrev pub withCount : Thread → ℕ → Thread
-withCount entry turns = entryOf (entry .status) turns
-
 -- the record with another status of one thread; as it was where there is no such thread
 abbrev pub withStatusAt : Machine → ℕ → Status → Machine
 withStatusAt m t status =
     record { enabled = m .enabled; last = m .last; threads = set (m .threads) t (withStatus (getD (m .threads) t zeroThread) status) }
 
--- "Each thread entry gains its issues since start, trapping ones too, wrapping at 2^32." (02, T-05)
--- a count after one issue more, and the record with one more of a thread
-abbrev pub oneMore : ℕ → ℕ
-oneMore turns = (turns + 1) % 2 ^ 32
-
--- after many
-unfoldable pub manyMore : ℕ → ℕ → ℕ
-manyMore zero turns = turns
-manyMore (suc n) turns = oneMore (manyMore n turns)
-
+-- the record with one issue more of a thread (02, T-05)
 abbrev pub counted : Machine → ℕ → Machine
 counted m t =
     record {

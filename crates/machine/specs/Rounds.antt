@@ -2,7 +2,7 @@
 use Prim.Native.Nat.{ℕ, suc, _+_, _-_, _/_, _%_}
 use mathlib.Core.Bool.{cond}
 use mathlib.Core.List.{List, [], _∷_}
-use Rattle.machine.specs.Machine.{manyMore}
+use Rattle.thread_entry.specs.Entry.{manyMore}
 use Rattle.machine.specs.Scheduler.{runs}
 use Rattle.machine.specs.Types.{Machine}
 

@@ -5,7 +5,7 @@ use mathlib.Core.List.{List, [], _∷_}
 use mathlib.Core.Option.{Option, none, some}
 use Rattle.machine.specs.Machine.{anyThread, statusAt}
 use Rattle.machine.specs.Search.{first}
-use Rattle.machine.specs.Status.{isRunning, isWaiting}
+use Rattle.thread_entry.specs.Status.{isRunning, isWaiting}
 use Rattle.machine.specs.Types.{Machine, Choice, Chosen, NoneRunning, Turn}
 
 abbrev pub runs : Machine → ℕ → Bool

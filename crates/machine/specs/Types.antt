@@ -1,8 +1,8 @@
--- The types that the code declares, by their names in the definitions.
-pub use Rattle.machine.specs.declared.status.Status.{Status}
-pub use Rattle.machine.specs.declared.status.Status.the-variants.{Idle, Running, Ended, Trapped, Waiting}
-pub use Rattle.machine.specs.declared.status.Thread.{Thread}
-pub use Rattle.machine.specs.declared.status.Limits.{Limits}
+-- The types that the code declares, here and below, by their names in the definitions.
+pub use Rattle.thread_entry.specs.declared.status.Status.{Status}
+pub use Rattle.thread_entry.specs.declared.status.Status.the-variants.{Idle, Running, Ended, Trapped, Waiting}
+pub use Rattle.thread_entry.specs.declared.status.Thread.{Thread}
+pub use Rattle.thread_entry.specs.declared.status.Limits.{Limits}
 pub use Rattle.machine.specs.declared.record.Machine.{Machine}
 pub use Rattle.machine.specs.declared.scheduler.Choice.{Choice}
 pub use Rattle.machine.specs.declared.scheduler.Choice.the-variants.{Chosen, NoneRunning}

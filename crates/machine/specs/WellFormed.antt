@@ -5,7 +5,7 @@ use lib.Dec.{leb, ltb, eqb}
 use lib.ListN.{length}
 use Rattle.bits.specs.Bit.{bit}
 use Rattle.machine.specs.Machine.{allThreads, anyThread, countThreads, statusAt}
-use Rattle.machine.specs.Status.{limits, isIdle, waitsAt, waitsOtherwise, ifWaiting, carriesInRange}
+use Rattle.thread_entry.specs.Status.{limits, isIdle, waitsAt, waitsOtherwise, ifWaiting, carriesInRange}
 use Rattle.machine.specs.Types.{Limits, Machine}
 
 -- how many threads wait at a barrier

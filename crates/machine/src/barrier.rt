@@ -3,11 +3,11 @@ ghost use Prim.Native.Nat.{_%_, _<_};
 ghost use mathlib.Core.Path.{_≡_};
 ghost use Rattle.machine.specs.Barrier.{released, release, OthersWait, arriveOrTrap, reachBarrier};
 use crate::record::Machine;
-use crate::status::GREATEST_BARRIER;
-use crate::status::Status;
-use crate::status::is_waiting;
-use crate::status::waits_at;
-use crate::status::waits_otherwise;
+use thread_entry::GREATEST_BARRIER;
+use thread_entry::Status;
+use thread_entry::is_waiting;
+use thread_entry::waits_at;
+use thread_entry::waits_otherwise;
 
 // The record after a meeting, and whether the thread was trapped instead of waiting.
 pub struct BarrierResult {

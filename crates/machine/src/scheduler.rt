@@ -1,14 +1,10 @@
 // The scheduler: which thread is issued next.
-ghost use Prim.Native.Nat.{_<_};
 ghost use mathlib.Core.Path.{_≡_};
 ghost use Rattle.machine.specs.Machine.{threadNumbers};
-ghost use Rattle.machine.specs.Rounds.{between, afterRounds};
-ghost use Rattle.machine.specs.Scheduler.{runs, withLast, choose, someWaits};
+ghost use Rattle.machine.specs.Scheduler.{runs, choose};
 ghost use Rattle.machine.specs.Search.{maskOf};
 use crate::record::Machine;
-use crate::status::is_running;
-use crate::status::is_waiting;
-use crate::status::many_more;
+use thread_entry::is_running;
 
 // The thread to issue, and its distance from "last", 1 to 8.
 pub enum Choice {
@@ -38,20 +34,6 @@ impl Machine {
         mask
     }
 
-    // Whether a thread waits: what tells a stuck machine from a stopped one.
-    pub fn some_waits(self) -> bool
-        ensures { λ r. ⌜ r ≡ someWaits self ⌝ }
-    {
-        for t in 0..8usize {
-            let entry = self.threads[t];
-            let status = entry.status;
-            if is_waiting(status) {
-                return true;
-            }
-        }
-        false
-    }
-
     // The first running thread after "last", going round upwards.
     pub fn choose(mut self) -> Turn
         ensures { λ r. ⌜ r ≡ choose self ⌝ }
@@ -73,38 +55,5 @@ impl Machine {
             choice: Choice::Chosen { thread, distance },
             machine: self,
         }
-    }
-
-    // The record with another thread "last".
-    pub fn with_last(mut self, last: u8) -> Machine
-        ensures { λ r. ⌜ r ≡ withLast self last ⌝ }
-    {
-        self.last = last;
-        self
-    }
-
-    // How many entries stand between "last" and a thread.
-    fn between(self, thread: usize) -> u32
-        requires { ⌜ thread < 8 ⌝ }
-        ensures { λ r. ⌜ r ≡ between self thread ⌝ }
-    {
-        (thread as u32 + 7 - (self.last % 8) as u32) % 8
-    }
-
-    // Counts of turns after issues in a row that set no status, of which the last is that of the thread so many entries after "last": each
-    // round of eight entries has one issue of every running thread.
-    pub fn count_rounds(self, mut turns: [u32; 8], passed: u64) -> [u32; 8]
-        ensures { λ r. ⌜ r ≡ afterRounds self passed turns ⌝ }
-    {
-        for thread in 0..8usize {
-            let status = self.status_at(thread);
-            let running = is_running(status);
-            if running {
-                let rounds = passed / 8 + (passed % 8 + 7 - self.between(thread) as u64) / 8;
-                let has = many_more(turns[thread], rounds);
-                turns[thread] = has;
-            }
-        }
-        turns
     }
 }

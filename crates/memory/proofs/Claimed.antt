@@ -8,10 +8,10 @@ use lib.Dec.{leb, ltb}
 use lib.IntN.{pos, negsuc, subℕ, _+ℤ_}
 use lib.ListN.{length}
 use borrow.Author.Tests.{eq-eqb, le-leb, leb-true, leb-false, lt-ltb, le-ltb, ltb-true, ltb-false}
-use Rattle.alu.specs.Word.{value}
+use Rattle.twos_complement.specs.Word.{value}
 use Rattle.vector.specs.Lanes.{each, lane, isOn}
 use Rattle.vector.proofs.Filling.{tab-length}
-use Rattle.alu.proofs.Signed.{value-positive, value-negative}
+use Rattle.twos_complement.proofs.Sign.{value-positive, value-negative}
 use Rattle.little_endian.proofs.Numbers.{kept-number}
 use Rattle.memory.proofs.Places.{when-good}
 use Rattle.memory.specs.Place.{biased, place}

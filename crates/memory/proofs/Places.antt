@@ -10,7 +10,7 @@ use borrow.Author.Tests.{leb-true}
 use Rattle.memory.specs.Types.{LoadOp, Load8, Load16, Load32, Load8u, Load16u, StoreOp, Store8, Store16, Store32}
 use Rattle.answer.specs.Reason.{misaligned, outside-memory}
 use Rattle.memory.specs.Attempt.{Attempt, done, fault}
-use Rattle.alu.specs.Word.{negative}
+use Rattle.twos_complement.specs.Word.{negative}
 use Rattle.memory.specs.Place.{biased, inside, place}
 use Rattle.memory.specs.Operation.{bytesLoaded, bytesStored, scalarPlace}
 

@@ -6,7 +6,7 @@ use mathlib.Core.List.{List, [], _∷_}
 use lib.IntN.{pos, subℕ, _+ℤ_}
 use lib.ListN.{length}
 use Rattle.alu.specs.Unary.{unary}
-use Rattle.alu.specs.Word.{value}
+use Rattle.twos_complement.specs.Word.{value}
 use Rattle.vector.specs.Lanes.{lane, isOn}
 use Rattle.memory.specs.Types.{LoadOp, Load8, Load16, Load32, Load8u, Load16u, StoreOp, Store8, Store16, Store32, Sext8, Sext16}
 use Rattle.answer.specs.Reason.{misaligned, outside-memory}

@@ -2,7 +2,7 @@
 use Prim.Native.Nat.{ℕ, _+_, _-_, _%_, _^_}
 use mathlib.Core.Bool.{Bool, cond, _&&_}
 use lib.Dec.{eqb, leb}
-use Rattle.alu.specs.Word.{negative}
+use Rattle.twos_complement.specs.Word.{negative}
 use Rattle.answer.specs.Reason.{misaligned, outside-memory}
 use Rattle.memory.specs.Attempt.{Attempt, done, fault}
 

@@ -15,9 +15,9 @@ use Rattle.isa.specs.Write.{write}
 use Rattle.isa.proofs.RoundTrip.{write-read}
 use Rattle.names.specs.Name.{nameOf}
 use Rattle.statement.specs.Types.{Instruction, R, I, Movei, J, C, M}
-use Rattle.expression.specs.Byte.{digit}
+use Rattle.token.specs.Byte.{digit}
 use Rattle.expression.specs.Label.{same}
-use Rattle.expression.specs.Number.{digitsOn, numeral}
+use Rattle.token.specs.Number.{digitsOn, numeral}
 use Rattle.statement.specs.Types.{Register}
 use Rattle.statement.specs.Mnemonic.{withImmediate, nameable, namedIn}
 use Rattle.statement.specs.Register.{reg, letter, digitsOf, spelled, numberedBy, letteredBy, registerOf}

@@ -9,8 +9,8 @@ use borrow.Author.Tests.{eq-eqb, ne-eqb, eqb-true}
 use lib.Dec.{eqb}
 use lib.ListN.{length, take, drop, getD, drop-of-length-le}
 use lib.Seq.{drop-cons}
-use Rattle.expression.specs.Byte.{inWord}
-use Rattle.expression.specs.Token.{leadingWord}
+use Rattle.token.specs.Byte.{inWord}
+use Rattle.token.specs.Token.{leadingWord}
 use Rattle.statement.specs.Line.{upTo}
 
 pub upto-on : (c : ℕ) (l : List ℕ) (i : ℕ) → i < length l → (getD l i 0 ≡ c → ⊥) → (i + 1) + length (upTo c (drop (i + 1) l)) ≡ i + length (upTo c (drop i l))

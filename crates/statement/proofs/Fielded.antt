@@ -10,7 +10,7 @@ use lib.ListN.{length}
 use Rattle.expression.specs.Grammar.{Parse, parse, expressionAt}
 use Rattle.expression.specs.Reading.{evaluated}
 use Rattle.expression.specs.Syntax.{Expression}
-use Rattle.expression.specs.Token.{Token}
+use Rattle.token.specs.Token.{Token}
 use Rattle.expression.specs.Value.{valueOf}
 use Rattle.statement.specs.Types.{Register, Slot, ARegister, AnImmediate, AnAddress, Nothing, Slots}
 use Rattle.statement.specs.Mnemonic.{isOperand}

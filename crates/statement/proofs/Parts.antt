@@ -1,17 +1,12 @@
 -- Parts of a list, as the code lends them.
-use Prim.Native.Nat.{ℕ, _+_, _-_, _<_, _≤_}
+use Prim.Native.Nat.{ℕ, _+_, _-_, _<_}
 use mathlib.Core.List.{List, _∷_}
 use mathlib.Core.Path.{_≡_, sym, ap, _∙_}
 use native.Mathlib.Omega.{arith}
 use lib.ListN.{length, take, drop, getD, length-drop}
-use lib.Seq.{slice, drop-cons, take-all}
-use Rattle.expression.specs.Token.{leadingWord}
-use Rattle.expression.proofs.Runs.{part, run-part}
-
-pub part-is : (s e : ℕ) (l : List ℕ) → s ≤ e → take (e - s) (drop s l) ≡ slice s e l
-part-is s e l h =
-    let q : s + (e - s) ≡ e = omega arith in
-    sym (part s (e - s) l) ∙ ap (λ i. slice s i l) q
+use lib.Seq.{drop-cons, take-all}
+use Rattle.token.specs.Token.{leadingWord}
+use Rattle.token.proofs.Runs.{part-is, run-part}
 
 -- what stands behind the first
 pub behind-first : (l : List ℕ) → 0 < length l → l ≡ getD l 0 0 ∷ take (length l - 1) (drop 1 l)

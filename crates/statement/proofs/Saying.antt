@@ -6,8 +6,9 @@ use mathlib.Core.Option.{Option, none, some}
 use mathlib.Core.Path.{_≡_, refl, sym, ap, _∙_}
 use native.Mathlib.Omega.{arith}
 use Rattle.statement.specs.Types.{Instruction}
-use Rattle.expression.specs.Grammar.{Parse, parse, isLabel}
-use Rattle.expression.specs.Token.{Token, leadingBlanks, leadingWord}
+use Rattle.expression.specs.Grammar.{Parse, parse}
+use Rattle.token.specs.Name.{isLabel}
+use Rattle.token.specs.Token.{Token, leadingBlanks, leadingWord}
 use Rattle.statement.specs.Types.{OperandValues}
 use Rattle.statement.specs.Mnemonic.{slots, hasOperands}
 use Rattle.statement.specs.Operand.{Operands}

@@ -12,11 +12,11 @@ use lib.Seq.{slice, length-slice}
 use Rattle.isa.specs.Text.{bytes, bytesFrom}
 use Rattle.names.specs.Name.{nameOf}
 use Rattle.statement.specs.Types.{Instruction}
-use Rattle.expression.specs.Byte.{isBlank}
-use Rattle.expression.specs.Grammar.{past, isLabel}
+use Rattle.token.specs.Byte.{isBlank}
+use Rattle.token.specs.Token.{past, Token, word, mark, leadingBlanks, leadingWord, tokens}
+use Rattle.token.specs.Name.{isLabel}
 use Rattle.expression.specs.Label.{same}
-use Rattle.expression.specs.Token.{Token, word, mark, leadingBlanks, leadingWord, tokens}
-use Rattle.expression.proofs.Runs.{skipped, behind-blanks, none-left, a-mark, a-word, run-fits}
+use Rattle.token.proofs.Runs.{skipped, behind-blanks, none-left, a-mark, a-word, run-fits}
 use Rattle.statement.specs.Mnemonic.{withImmediate, nameable, namedIn, named, slots, hasOperands}
 use Rattle.statement.specs.Operand.{Operands, operandsAt}
 use Rattle.statement.specs.Line.{blank, label, instruction, uncommented, ended, instructionBy, namedLine, labelLine, byColon, tokenLine, wordEnd, isSpaced, codeLine, lineOf}

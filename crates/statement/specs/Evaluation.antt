@@ -5,7 +5,7 @@ use mathlib.Core.Option.{Option, none, some}
 use mathlib.Core.Path.{_≡_}
 use lib.ListN.{drop}
 use Rattle.statement.specs.Types.{Instruction}
-use Rattle.expression.specs.Token.{leadingWord, tokens}
+use Rattle.token.specs.Token.{leadingWord, tokens}
 use Rattle.statement.specs.Types.{OperandValues}
 use Rattle.statement.specs.Field.{operandValuesOf}
 use Rattle.statement.specs.Line as L

@@ -5,10 +5,10 @@ use mathlib.Core.List.{List, [], _∷_}
 use mathlib.Core.Option.{Option, none, some}
 use lib.Dec.{eqb}
 use lib.ListN.{drop, getD}
-use Rattle.expression.specs.Grammar.{Parse, parse, past, expressionAt}
+use Rattle.expression.specs.Grammar.{Parse, parse, expressionAt}
+use Rattle.token.specs.Token.{past, Token, tokens}
 use Rattle.expression.specs.Reading.{evaluated}
 use Rattle.expression.specs.Syntax.{Expression}
-use Rattle.expression.specs.Token.{Token, tokens}
 use Rattle.expression.specs.Value.{bias, valueOf}
 use Rattle.statement.specs.Types.{Value, Known, Register, Slot, ARegister, AnImmediate, AnAddress, Nothing, OperandValues}
 use Rattle.statement.specs.declared.operands.OperandsAt.{OperandsAt}

@@ -4,7 +4,7 @@ use mathlib.Core.Option.{Option, none, some}
 use Prim.Native.Nat.{ℕ}
 use lib.ListN.{drop}
 use Rattle.expression.specs.Grammar.{Parse, parse}
-use Rattle.expression.specs.Token.{tokens}
+use Rattle.token.specs.Token.{tokens}
 use Rattle.statement.specs.Types.{Register}
 use Rattle.statement.specs.declared.registers.RegisterWord.{RegisterWord}
 use Rattle.statement.specs.declared.registers.RegisterWord.the-variants as W

@@ -6,9 +6,10 @@ use mathlib.Core.Option.{Option, none, some}
 use lib.Dec.{eqb, ltb}
 use lib.ListN.{length, drop, getD}
 use Rattle.statement.specs.Types.{Instruction}
-use Rattle.expression.specs.Byte.{isBlank}
-use Rattle.expression.specs.Grammar.{Parse, past, isLabel}
-use Rattle.expression.specs.Token.{Token, word, mark, leadingBlanks, leadingWord, tokens}
+use Rattle.token.specs.Byte.{isBlank}
+use Rattle.expression.specs.Grammar.{Parse}
+use Rattle.token.specs.Token.{past, Token, word, mark, leadingBlanks, leadingWord, tokens}
+use Rattle.token.specs.Name.{isLabel}
 use Rattle.statement.specs.Mnemonic.{named, slots, hasOperands}
 use Rattle.statement.specs.Operand.{Operands, operandsAt}
 

@@ -4,9 +4,9 @@ use mathlib.Core.List.{List, [], _∷_, _++_}
 use mathlib.Core.Option.{Option, none, some}
 use lib.Dec.{eqb}
 use lib.ListN.{length}
-use Rattle.expression.specs.Grammar.{Parse, parse, past, expressionAt}
+use Rattle.expression.specs.Grammar.{Parse, parse, expressionAt}
+use Rattle.token.specs.Token.{past, Token}
 use Rattle.expression.specs.Syntax.{Expression}
-use Rattle.expression.specs.Token.{Token}
 use Rattle.statement.specs.Types.{Register, Slot, ARegister, AnImmediate, AnAddress, Nothing, Slots}
 use Rattle.statement.specs.Mnemonic.{isOperand}
 use Rattle.statement.specs.Register.{registerAt, bracketAt}

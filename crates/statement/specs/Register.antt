@@ -4,10 +4,10 @@ use mathlib.Core.Bool.{Bool, true, false, _&&_, cond}
 use mathlib.Core.List.{List, [], _∷_}
 use mathlib.Core.Option.{Option, none, some}
 use lib.Dec.{eqb, ltb}
-use Rattle.expression.specs.Grammar.{Parse, parse, behindIt, past}
+use Rattle.expression.specs.Grammar.{Parse, parse, behindIt}
+use Rattle.token.specs.Token.{past, Token, word, mark}
 use Rattle.expression.specs.Label.{same}
-use Rattle.expression.specs.Number.{numeral}
-use Rattle.expression.specs.Token.{Token, word, mark}
+use Rattle.token.specs.Number.{numeral}
 use Rattle.statement.specs.Types.{Register}
 
 abbrev pub reg : Bool → ℕ → Register

@@ -11,16 +11,16 @@ use Rattle.text.proofs.Lengths.{decimal-small}
 use Rattle.text.proofs.Parts.{total, total-append}
 use Rattle.text.specs.Number.{decimal}
 use Rattle.machine.specs.Machine.{statusAt, turnsAt}
-use Rattle.machine.specs.Status.{isIdle}
+use Rattle.thread_entry.specs.Status.{isIdle}
 use Rattle.thread_lines.specs.Lines.{programCounter, reason, stateParts, turnsUnit, turnsParts, lineParts, linesParts, offPart, offParts, offLine, threadParts}
 use Rattle.thread_lines.specs.Text.{counter}
 use Rattle.thread_lines.specs.Types.{Machine, Status, Idle, Running, Ended, Trapped, Waiting}
 
-counter-length : (n : ℕ) → length (counter n) ≡ 8
+pub counter-length : (n : ℕ) → length (counter n) ≡ 8
 unfolding counter
 counter-length n = refl
 
-reason-small : (n : ℕ) → length (reason n) ≤ 22
+pub reason-small : (n : ℕ) → length (reason n) ≤ 22
 unfolding reason bytes
 reason-small n = go (eqb n 1) (eqb n 2) (eqb n 3) (eqb n 4) (eqb n 5)
   where

@@ -8,7 +8,7 @@ use lib.ListN.{getD}
 use Rattle.isa.specs.Text.{bytes}
 use Rattle.machine.specs.Machine.{statusAt, turnsAt}
 use Rattle.machine.specs.State.{scalarIndex, programCounterRegister}
-use Rattle.machine.specs.Status.{isIdle}
+use Rattle.thread_entry.specs.Status.{isIdle}
 use Rattle.text.specs.Number.{decimal}
 use Rattle.thread_lines.specs.Text.{counter}
 use Rattle.thread_lines.specs.Types.{Machine, Status, Idle, Running, Ended, Trapped, Waiting}
@@ -32,13 +32,21 @@ reason number =
 abbrev pub barrierParts : ℕ → ℕ → List (List ℕ)
 barrierParts id count = bytes " at barrier " ∷ decimal id ∷ bytes " for " ∷ decimal count ∷ []
 
+-- what a status carries
+abbrev pub carriedParts : Status → List (List ℕ)
+carriedParts Idle = []
+carriedParts Running = []
+carriedParts Ended = []
+carriedParts (Trapped number) = bytes ": " ∷ reason number ∷ []
+carriedParts (Waiting id count) = barrierParts id count
+
 -- the status of a thread that is on, its program counter, and what the status carries
 abbrev pub stateParts : Status → ℕ → List (List ℕ)
 stateParts Idle pc = []
 stateParts Running pc = bytes " running at " ∷ counter pc ∷ []
 stateParts Ended pc = bytes " ended at " ∷ counter pc ∷ []
-stateParts (Trapped number) pc = bytes " trapped at " ∷ counter pc ∷ bytes ": " ∷ reason number ∷ []
-stateParts (Waiting id count) pc = bytes " waiting at " ∷ counter pc ∷ barrierParts id count
+stateParts (Trapped number) pc = bytes " trapped at " ∷ counter pc ∷ carriedParts (Trapped number)
+stateParts (Waiting id count) pc = bytes " waiting at " ∷ counter pc ∷ carriedParts (Waiting id count)
 
 -- what is counted, behind the number, and the end of the line
 unfoldable pub turnsUnit : ℕ → List ℕ

@@ -2,4 +2,5 @@
 mod line;
 mod lines;
 
+pub use line::put_carried;
 pub use lines::put_threads;

@@ -2,14 +2,14 @@
 ghost use mathlib.Core.List.{[], _∷_};
 ghost use mathlib.Core.Path.{_≡_};
 ghost use Rattle.text.specs.Buffer.{wrote, puts};
-ghost use Rattle.thread_lines.specs.Lines.{reason, barrierParts, stateParts, turnsUnit, turnsParts, lineParts, offPart};
+ghost use Rattle.thread_lines.specs.Lines.{reason, barrierParts, carriedParts, stateParts, turnsUnit, turnsParts, lineParts, offPart};
 ghost use Rattle.text.specs.Parts.{putsAll};
 ghost use Rattle.thread_lines.specs.Text.{counter};
-use machine::Status;
-use machine::is_idle;
 use text::hex_of;
 use text::put_decimal;
 use text::put_text;
+use thread_entry::Status;
+use thread_entry::is_idle;
 
 // Why a thread trapped.
 fn put_reason(out: &mut [u8], at: usize, number: u8) -> usize
@@ -52,7 +52,23 @@ fn put_barrier(out: &mut [u8], at: usize, id: u8, count: u8) -> usize
     put_decimal(out, at, count as u32)
 }
 
-// A thread's status, what that carries, and its program counter.
+// What a status carries: why a thread trapped, or what it waits for.
+pub fn put_carried(out: &mut [u8], at: usize, status: Status) -> usize
+    ensures { λ r. ⌜ wrote r (now (out .exit)) ≡ putsAll (wrote at (now (out .entry))) (carriedParts status) ⌝ }
+{
+    match status {
+        Status::Idle => at,
+        Status::Running => at,
+        Status::Ended => at,
+        Status::Trapped(number) => {
+            let at = put_text(out, at, b": ");
+            put_reason(out, at, number)
+        }
+        Status::Waiting(id, count) => put_barrier(out, at, id, count),
+    }
+}
+
+// A thread's status, its program counter, and what the status carries.
 fn put_state(out: &mut [u8], at: usize, status: Status, pc: u32) -> usize
     ensures { λ r. ⌜ wrote r (now (out .exit)) ≡ putsAll (wrote at (now (out .entry))) (stateParts status pc) ⌝ }
 {
@@ -60,14 +76,13 @@ fn put_state(out: &mut [u8], at: usize, status: Status, pc: u32) -> usize
         Status::Idle => at,
         Status::Running => put_at(out, at, b" running at ", pc),
         Status::Ended => put_at(out, at, b" ended at ", pc),
-        Status::Trapped(number) => {
+        Status::Trapped(_) => {
             let at = put_at(out, at, b" trapped at ", pc);
-            let at = put_text(out, at, b": ");
-            put_reason(out, at, number)
+            put_carried(out, at, status)
         }
-        Status::Waiting(id, count) => {
+        Status::Waiting(_, _) => {
             let at = put_at(out, at, b" waiting at ", pc);
-            put_barrier(out, at, id, count)
+            put_carried(out, at, status)
         }
     }
 }

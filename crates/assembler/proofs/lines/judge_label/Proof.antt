@@ -3,9 +3,9 @@ use Rattle.assembler.proofs.Tables.{address-is, unknown-is, known-is, n
 use Rattle.assembler.specs.Walk.{entries}
 use Rattle.assembler.specs.Source.{isKnown}
 use Rattle.assembler.specs.Types.{Unknown}
-use Rattle.expression.proofs.Runs.{run-fits}
+use Rattle.token.proofs.Runs.{run-fits}
 use Rattle.expression.specs.Value.{labelValue}
-use Rattle.expression.specs.Token.{leadingWord}
+use Rattle.token.specs.Token.{leadingWord}
 use Rattle.expression.specs.Label.{addressIn}
 use lib.Seq.{length-take-le}
 use lib.ListN.{take, drop}

@@ -2,7 +2,7 @@
 use mathlib.Core.Path.{ap, _∙_}
 use Prim.Native.Nat.{ℕ}
 use borrow.Author.Needs.{needs}
-use Rattle.alu.specs.Order.{orderBiased, pick}
+use Rattle.ordering.specs.Order.{orderBiased, pick}
 use Rattle.compares.specs.declared.outcome.Outcomes.{Outcomes}
 use Rattle.compares.proofs.Picked.{answered}
 use Rattle.compares.proofs.outcome.answer.Statement.{statement}

@@ -1,7 +1,7 @@
 -- `outcome::answers` meets its contract: the row's kind tells floats from whole numbers.
 use mathlib.Core.Path.{sym, ap, _∙_}
 use borrow.Author.Needs.{needs}
-use Rattle.alu.specs.declared.rows.CompareRow.{CompareRow}
+use Rattle.ordering.specs.declared.rows.CompareRow.{CompareRow}
 use Rattle.compares.specs.Outcome.{isFloat, outcomesOf}
 use Rattle.compares.proofs.outcome.answers.Statement.{statement}
 use Rattle.compares.proofs.outcome.answers.Tie as tie

@@ -3,7 +3,7 @@ use mathlib.Core.Path.{ap, _∙_}
 use Prim.Native.Nat.{ℕ}
 use lib.Bits.{bitAnd}
 use borrow.Author.Needs.{needs}
-use Rattle.alu.specs.Compare.{compare}
+use Rattle.ordering.specs.Compare.{compare}
 use Rattle.vector.specs.Lanes.{lane}
 use Rattle.compares.specs.Lanes.{compareLanes}
 use Rattle.compares.specs.Outcome.{answersOf}

@@ -2,8 +2,8 @@
 use mathlib.Core.Path.{ap, _∙_}
 use Prim.Native.Nat.{_-_}
 use borrow.Author.Needs.{needs}
-use Rattle.alu.specs.Order.{order, pick}
-use Rattle.alu.specs.declared.rows.Kind.the-variants.{Float}
+use Rattle.ordering.specs.Order.{order, pick}
+use Rattle.ordering.specs.declared.rows.Kind.the-variants.{Float}
 use Rattle.vector.specs.Lanes.{lane}
 use Rattle.compares.specs.Outcome.{flagsOf}
 use Rattle.compares.proofs.Flags.{Collecting, start, more, whole}

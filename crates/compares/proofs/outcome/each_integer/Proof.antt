@@ -1,7 +1,7 @@
 -- `outcome::each_integer` meets its contract: bit j is filled by the answer of lane j.
 use Prim.Native.Nat.{_-_}
 use borrow.Author.Needs.{needs}
-use Rattle.alu.specs.Compare.{compare}
+use Rattle.ordering.specs.Compare.{compare}
 use Rattle.vector.specs.Lanes.{lane}
 use Rattle.compares.specs.Outcome.{answersOf}
 use Rattle.compares.proofs.Flags.{Collecting, start, more, whole}

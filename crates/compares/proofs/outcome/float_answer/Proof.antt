@@ -2,8 +2,8 @@
 use mathlib.Core.Path.{sym, ap, _∙_}
 use mathlib.Core.Bool.{Bool}
 use borrow.Author.Needs.{needs}
-use Rattle.alu.specs.Order.{pick}
-use Rattle.alu.specs.declared.rows.Ordering.{Ordering}
+use Rattle.ordering.specs.Order.{pick}
+use Rattle.ordering.specs.declared.rows.Ordering.{Ordering}
 use Rattle.compares.proofs.outcome.float_answer.Statement.{statement}
 use Rattle.compares.proofs.outcome.float_answer.Tie as tie
 

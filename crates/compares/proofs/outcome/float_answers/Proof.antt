@@ -3,8 +3,8 @@ use mathlib.Core.Path.{sym, ap, _∙_}
 use mathlib.Core.Bool.{Bool}
 use borrow.Author.Needs.{needs}
 use Rattle.isa.specs.declared.instruction.CompareOp.{CompareOp}
-use Rattle.alu.specs.Order.{rowOf}
-use Rattle.alu.proofs.FloatRows.{eq-row, ne-row, gt-row, ge-row, lt-row, le-row}
+use Rattle.ordering.specs.Order.{rowOf}
+use Rattle.ordering.proofs.FloatRows.{eq-row, ne-row, gt-row, ge-row, lt-row, le-row}
 use Rattle.compares.specs.Outcome.{isFloat, answersOf}
 use Rattle.compares.proofs.Flags.{same-mask}
 use Rattle.compares.proofs.Picked.{apart}

@@ -1,4 +1,4 @@
-use Rattle.expression.proofs.Tokens.{token-read}
+use Rattle.token.proofs.Tokens.{token-read}
 use Prim.Native.Nat.{ℕ, _+_, _-_, _*_, _<_}
 use mathlib.Core.Path.{_≡_, refl, sym, ap, subst, _∙_}
 use native.Mathlib.Omega.{arith}
@@ -10,11 +10,12 @@ use lib.ListN.{length, drop}
 use lib.Seq.{slice}
 use Rattle.expression.specs.Grammar.{signAt}
 use Rattle.expression.specs.Reading.{Advances, TermRead}
-use Rattle.expression.specs.Scan.{TokenAdvances, SignAdvances}
-use Rattle.expression.specs.Token.{word, mark, tokens}
+use Rattle.token.specs.Scan.{TokenAdvances}
+use Rattle.expression.specs.Reading.{SignAdvances}
+use Rattle.token.specs.Token.{word, mark, tokens}
 use Rattle.expression.specs.declared.expression.Parsed.the-variants.{Read, Malformed}
-use Rattle.expression.specs.declared.token.SignAt.the-variants as S
-use Rattle.expression.specs.declared.token.Token.the-variants.{Word, Mark}
+use Rattle.expression.specs.declared.sign.SignAt.the-variants as S
+use Rattle.token.specs.declared.token.Token.the-variants.{Word, Mark}
 use Rattle.expression.proofs.Places.{later, deeper, ahead-on, ahead-from, held-in, further}
 use Rattle.expression.proofs.Steps.{sum-stops, sum-ends, sum-goes-on, term-ends, term-word, term-mark, term-group}
 use borrow.Fn.Kinds.{In}
@@ -28,9 +29,9 @@ use Rattle.expression.proofs.expression.+sum+term.Lts-term as term-lts
 use Rattle.expression.proofs.expression.close.Reads as close-reads
 use Rattle.expression.proofs.expression.less.Reads as less-reads
 use Rattle.expression.proofs.expression.word_at.Reads as word-at-reads
-use Rattle.expression.proofs.token.lead_at.Reads as lead-at-reads
-use Rattle.expression.proofs.token.sign_at.Reads as sign-at-reads
-use Rattle.expression.proofs.token.token_at.Reads as token-at-reads
+use Rattle.expression.proofs.sign.lead_at.Reads as lead-at-reads
+use Rattle.expression.proofs.sign.sign_at.Reads as sign-at-reads
+use Rattle.token.proofs.token_at.Reads as token-at-reads
 use Rattle.expression.proofs.value.plus.Reads as plus-reads
 use Rattle.expression.proofs.expression.+sum+term.{statement}
 use Rattle.expression.proofs.expression.+sum+term.Tie.{close}

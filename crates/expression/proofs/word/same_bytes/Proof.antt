@@ -1,19 +1,15 @@
-use Rattle.expression.proofs.Labels.{words-begin, bytes-on, bytes-differ, run-end-in}
+use Rattle.expression.proofs.Labels.{words-begin, bytes-on, bytes-differ}
 use Prim.Native.Nat.{_+_, _-_, _≤_}
-use mathlib.Core.Path.{_≡_, refl, sym, ap, _∙_}
+use mathlib.Core.Path.{_≡_, _∙_}
 use native.Mathlib.Omega.{arith}
 use borrow.Author.Needs.{needs}
-use lib.ListN.{length, drop, length-drop}
+use lib.ListN.{drop}
 use lib.Seq.{slice}
-use Rattle.expression.proofs.Labels.{run-in, other-length, byte-same, byte-other, both-end}
-use Rattle.expression.proofs.Runs.{run-part, run-short}
+use Rattle.expression.proofs.Labels.{run-in, other-length, both-end}
 use Rattle.expression.specs.Label.{same}
-use Rattle.expression.specs.Token.{leadingWord}
+use Rattle.token.specs.Token.{leadingWord}
 use Rattle.expression.proofs.word.same_bytes.Statement.{statement}
 use Rattle.expression.proofs.word.same_bytes.Tie as tie
-use Rattle.expression.proofs.word.same_bytes.Reads as reads
-use Rattle.expression.proofs.word.same_bytes.Lts as lts
-use Rattle.expression.proofs.token.past_run.Reads as past-run-reads
 
 abbrev Inv-loop : tie.InvT-loop
 Inv-loop source place line start stop end i₀ i = (same (slice (place + i) end source) (slice (start + i) stop line) ≡ same (leadingWord (drop place source)) (slice start stop line)) × (i ≤ stop - start)
@@ -21,63 +17,48 @@ Inv-loop source place line start stop end i₀ i = (same (slice (place + i) end 
 abbrev μ-loop : tie.MeasureT-loop
 μ-loop source place line start stop end i₀ i = stop - start - i
 
--- src/word.rt:98:9
 past-run-requires : tie.Need-past-run-requires Inv-loop μ-loop
 past-run-requires c κs = search needs
 
--- src/word.rt:99:8
 sub-if1 : tie.Need-sub-if1 Inv-loop μ-loop
 sub-if1 c = omega (arith, c .past-run .ensures)
 
--- src/word.rt:99:23
 sub-if1-2 : tie.Need-sub-if1-2 Inv-loop μ-loop
 sub-if1-2 c = omega arith
 
--- src/word.rt:100:9
 returns : tie.Need-returns Inv-loop μ-loop
 returns c = other-length (c .before .before .before .before .args .source .now) (c .before .before .before .before .args .line .now) (c .before .before .before .before .args .place) (c .before .past-run .result) (c .before .before .before .before .args .start) (c .before .before .before .before .args .stop) (c .before .past-run .ensures) (c .before .before .before .before .pre .0) (c .if1 .taken)
 
--- src/word.rt:103:5
 loop-holds : tie.Need-loop-holds Inv-loop μ-loop
 loop-holds c = (words-begin (c .before .before .before .before .args .source .now) (c .before .before .before .before .args .line .now) (c .before .before .before .before .args .place) (c .before .past-run .result) (c .before .before .before .before .args .start) (c .before .before .before .before .args .stop) (c .before .past-run .ensures), omega arith)
 
--- src/word.rt:103:15
 sub-loop : tie.Need-sub-loop Inv-loop μ-loop
 sub-loop c = omega arith
 
--- src/word.rt:104:19
 add-if2 : tie.Need-add-if2 Inv-loop μ-loop
 add-if2 c = omega (arith, run-in (c .before .before .before .before .before .before .args .source .now) (c .before .before .before .before .before .before .args .place) (c .before .before .before .past-run .result) (c .before .loop .i) (c .before .before .before .past-run .ensures) (omega arith))
 
--- src/word.rt:104:12
 shared-slice-read-if2 : tie.Need-shared-slice-read-if2 Inv-loop μ-loop
 shared-slice-read-if2 c = run-in (c .before .before .before .before .before .before .before .args .source .now) (c .before .before .before .before .before .before .before .args .place) (c .before .before .before .before .past-run .result) (c .before .before .loop .i) (c .before .before .before .before .past-run .ensures) (omega arith)
 
--- src/word.rt:104:38
 add-if2-2 : tie.Need-add-if2-2 Inv-loop μ-loop
 add-if2-2 c = omega arith
 
--- src/word.rt:104:33
 shared-slice-read-if2-2 : tie.Need-shared-slice-read-if2-2 Inv-loop μ-loop
 shared-slice-read-if2-2 c = omega arith
 
--- src/word.rt:105:13
 returns-2 : tie.Need-returns-2 Inv-loop μ-loop
 returns-2 c = bytes-differ (c .before .before .before .before .before .before .before .before .before .args .source .now) (c .before .before .before .before .before .before .before .before .before .args .line .now) (c .before .before .before .before .before .before .before .before .before .args .place) (c .before .before .before .before .before .before .past-run .result) (c .before .before .before .before .before .before .before .before .before .args .start) (c .before .before .before .before .before .before .before .before .before .args .stop) (c .before .before .before .before .loop .i) (c .before .before .before .before .before .before .past-run .ensures) (c .before .before .before .before .before .if1 .left) (omega arith) (c .before .before .before .before .before .before .before .before .before .pre .0) (c .if2 .taken) ∙ c .before .before .before .before .loop .inv .0
 
--- src/word.rt:107:9
 add-i : tie.Need-add-i Inv-loop μ-loop
 add-i c = omega arith
 
--- src/word.rt:103:5
 loop-less : tie.Need-loop-less Inv-loop μ-loop
 loop-less c = omega arith
 
--- src/word.rt:103:5
 loop-again : tie.Need-loop-again Inv-loop μ-loop
 loop-again c = (bytes-on (c .before .before .before .before .before .before .before .before .before .args .source .now) (c .before .before .before .before .before .before .before .before .before .args .line .now) (c .before .before .before .before .before .before .before .before .before .args .place) (c .before .before .before .before .before .before .past-run .result) (c .before .before .before .before .before .before .before .before .before .args .start) (c .before .before .before .before .before .before .before .before .before .args .stop) (c .before .before .before .before .loop .i) (c .before .before .before .before .before .before .past-run .ensures) (c .before .before .before .before .before .if1 .left) (omega arith) (c .before .before .before .before .before .before .before .before .before .pre .0) (c .if2 .left) ∙ c .before .before .before .before .loop .inv .0, omega arith)
 
--- src/word.rt:94:1
 returns-3 : tie.Need-returns-3 Inv-loop μ-loop
 returns-3 c = both-end (c .before .before .before .before .before .before .args .source .now) (c .before .before .before .before .before .before .args .line .now) (c .before .before .before .before .before .before .args .place + c .before .loop .i) (c .before .before .before .past-run .result) (c .before .before .before .before .before .before .args .start + c .before .loop .i) (c .before .before .before .before .before .before .args .stop) (omega (arith, c .before .before .before .past-run .ensures, c .before .before .if1 .left)) (omega arith) ∙ c .before .loop .inv .0
 

@@ -3,7 +3,7 @@ use mathlib.Core.Path.{ap, _∙_}
 use borrow.Author.Needs.{needs}
 use Rattle.expression.specs.Label.{addressIn}
 use Rattle.expression.specs.Value.{labelValue}
-use Rattle.expression.proofs.Numbers.{whole}
+use Rattle.token.proofs.Numbers.{whole}
 use Rattle.expression.proofs.word.value_of_label.Statement.{statement}
 use Rattle.expression.proofs.word.value_of_label.Tie as tie
 

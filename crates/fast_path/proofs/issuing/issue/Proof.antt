@@ -1,7 +1,7 @@
 -- `issuing::issue` meets its contract: by whether the fast path executed the word.
 use borrow.Author.Needs.{needs}
 use mathlib.Core.Path.{ap, _∙_}
-use Rattle.machine.specs.Machine.{manyMore}
+use Rattle.thread_entry.specs.Entry.{manyMore}
 use Rattle.machine.specs.State.{state}
 use Rattle.fast_path.proofs.Trying.{any-turns}
 use Rattle.fast_path.proofs.issuing.issue.Statement.{statement}

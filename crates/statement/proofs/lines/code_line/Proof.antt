@@ -1,15 +1,14 @@
 -- `code_line` meets its contract.
-use Rattle.expression.proofs.Tokens.{token-read}
+use Rattle.token.proofs.Tokens.{token-read}
 use Rattle.statement.proofs.Saying.{word-end}
 use Rattle.statement.specs.Evaluation.{evaluatedLine}
 use Rattle.statement.specs.Line.{byColon, tokenLine, isSpaced}
-use Rattle.expression.proofs.Runs.{run-part}
-use Rattle.expression.specs.declared.token.Token.the-variants.{Word}
-use Rattle.expression.specs.Token.{word, tokens}
-use Rattle.expression.specs.Scan.{TokenAdvances, WholeWord}
+use Rattle.token.proofs.Runs.{run-part}
+use Rattle.token.specs.declared.token.Token.the-variants.{Word}
+use Rattle.token.specs.Token.{word, tokens, past}
+use Rattle.token.specs.Scan.{TokenAdvances, WholeWord}
 use Rattle.expression.specs.Label.{addressIn}
-use Rattle.expression.specs.Grammar.{past}
-use Rattle.expression.specs.Byte.{isBlank}
+use Rattle.token.specs.Byte.{isBlank}
 use lib.Seq.{slice}
 use lib.ListN.{length, drop, getD}
 use mathlib.Core.List.{_∷_}

@@ -1,13 +1,13 @@
 -- `instruction_line` meets its contract.
-use Rattle.expression.proofs.Tokens.{token-read}
+use Rattle.token.proofs.Tokens.{token-read}
 use Rattle.statement.proofs.Saying.{malformed, stated, unspaced, overlong}
 use Rattle.statement.specs.Field.{operandsEvaluated}
 use Rattle.statement.specs.Operand.{operandsAt}
 use Rattle.statement.specs.Mnemonic.{slots, hasOperands}
-use Rattle.expression.specs.Token.{tokens}
+use Rattle.token.specs.Token.{tokens}
 use Rattle.expression.specs.Label.{addressIn}
 use Rattle.expression.specs.Grammar.{parse}
-use Rattle.expression.specs.Byte.{isBlank}
+use Rattle.token.specs.Byte.{isBlank}
 use lib.ListN.{drop, getD}
 use mathlib.Core.Path.{_≡_}
 use mathlib.Core.List.{[]}

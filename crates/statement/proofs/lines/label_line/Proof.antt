@@ -1,9 +1,9 @@
 -- `label_line` meets its contract.
-use Rattle.expression.proofs.Tokens.{token-read}
+use Rattle.token.proofs.Tokens.{token-read}
 use Rattle.statement.proofs.Saying.{no-label, a-label, label-more}
 use Rattle.statement.proofs.Parts.{word-part}
-use Rattle.expression.specs.Token.{leadingWord, tokens}
-use Rattle.expression.specs.Grammar.{isLabel}
+use Rattle.token.specs.Token.{leadingWord, tokens}
+use Rattle.token.specs.Name.{isLabel}
 use lib.ListN.{drop}
 use borrow.Author.Tests.{not-true, not-false}
 use mathlib.Core.Bool.{true, false}

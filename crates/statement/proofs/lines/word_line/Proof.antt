@@ -1,8 +1,8 @@
 -- `word_line` meets its contract.
-use Rattle.expression.proofs.Tokens.{place-read}
+use Rattle.token.proofs.Tokens.{place-read}
 use Rattle.statement.proofs.Parts.{word-part}
-use Rattle.expression.specs.declared.token.Place.the-variants.{At}
-use Rattle.expression.specs.Scan.{PlaceAdvances}
+use Rattle.token.specs.declared.token.Place.the-variants.{At}
+use Rattle.token.specs.Scan.{PlaceAdvances}
 use Rattle.expression.specs.Label.{addressIn}
 use lib.ListN.{length}
 use borrow.Author.Needs.{needs}

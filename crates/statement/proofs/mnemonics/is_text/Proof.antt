@@ -1,12 +1,11 @@
 -- `is_text` meets its contract: byte by byte.
 use Rattle.expression.proofs.Labels.{lengths-differ, byte-same, byte-other, both-end}
-use Rattle.expression.proofs.Numbers.{whole}
+use Rattle.token.proofs.Numbers.{whole}
 use Rattle.expression.specs.Label.{same}
 use lib.Seq.{slice, length-take-le}
 use lib.ListN.{length, take}
-use Prim.Native.Nat.{ℕ, _-_}
-use mathlib.Core.Path.{_≡_, refl, ap, _∙_}
-use borrow.Author.Needs.{needs}
+use Prim.Native.Nat.{_-_}
+use mathlib.Core.Path.{_≡_, ap, _∙_}
 use native.Mathlib.Omega.{arith}
 use Rattle.statement.proofs.mnemonics.is_text.Statement.{statement}
 use Rattle.statement.proofs.mnemonics.is_text.Tie as tie

@@ -1,5 +1,5 @@
 -- `separate` meets its contract.
-use Rattle.expression.proofs.Tokens.{place-read}
+use Rattle.token.proofs.Tokens.{place-read}
 use borrow.Author.Tests.{eq-eqb, ne-eqb}
 use borrow.Author.Needs.{needs}
 use Rattle.statement.proofs.operands.separate.Statement.{statement}

@@ -1,5 +1,5 @@
 -- `bracket_at` meets its contract.
-use Rattle.expression.proofs.Tokens.{place-read}
+use Rattle.token.proofs.Tokens.{place-read}
 use borrow.Author.Needs.{needs}
 use Rattle.statement.proofs.registers.bracket_at.Statement.{statement}
 use Rattle.statement.proofs.registers.bracket_at.Tie as tie

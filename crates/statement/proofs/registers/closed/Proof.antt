@@ -1,5 +1,5 @@
 -- `closed` meets its contract.
-use Rattle.expression.proofs.Tokens.{place-read}
+use Rattle.token.proofs.Tokens.{place-read}
 use borrow.Author.Needs.{needs}
 use Rattle.statement.proofs.registers.closed.Statement.{statement}
 use Rattle.statement.proofs.registers.closed.Tie as tie

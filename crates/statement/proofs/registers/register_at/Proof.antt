@@ -1,9 +1,9 @@
 -- `register_at` meets its contract.
-use Rattle.expression.proofs.Tokens.{token-read}
-use Rattle.expression.specs.declared.token.Token.the-variants.{Word}
+use Rattle.token.proofs.Tokens.{token-read}
+use Rattle.token.specs.declared.token.Token.the-variants.{Word}
 use lib.ListN.{length}
-use Rattle.statement.proofs.Parts.{part-is}
-use Rattle.expression.specs.Scan.{TokenAdvances}
+use Rattle.token.proofs.Runs.{part-is}
+use Rattle.token.specs.Scan.{TokenAdvances}
 use native.Mathlib.Omega.{arith}
 use borrow.Author.Needs.{needs}
 use Rattle.statement.proofs.registers.register_at.Statement.{statement}

@@ -9,8 +9,9 @@ use borrow.Author.Tests.{eq-eqb, ne-eqb}
 use lib.Dec.{eqb}
 use lib.ListN.{length, length-map, set}
 use Rattle.machine.specs.Barrier.{released, release, releaseIfMet, othersWaiting}
-use Rattle.machine.specs.Machine.{statusAt, withStatus, withStatusAt, trap}
-use Rattle.machine.specs.Status.{waitsAt}
+use Rattle.thread_entry.specs.Entry.{withStatus}
+use Rattle.machine.specs.Machine.{statusAt, withStatusAt, trap}
+use Rattle.thread_entry.specs.Status.{waitsAt}
 use Rattle.machine.specs.Types.{Running, Waiting, Thread, Machine}
 use Rattle.machine.specs.WellFormed.{waiting, disputed}
 use Rattle.machine.proofs.Kept.{set-same, set-other}

@@ -8,7 +8,7 @@ use borrow.Author.Needs.{needs}
 use borrow.Author.Tests.{ne-eqb}
 use lib.Dec.{eqb}
 use Rattle.machine.specs.Machine.{statusAt}
-use Rattle.machine.specs.Status.{isWaiting}
+use Rattle.thread_entry.specs.Status.{isWaiting}
 use Rattle.machine.specs.Types.{Machine}
 use Rattle.machine.proofs.Loops.{Searching, search-start, search-found, search-on, search-done, Counting, count-start, count-one, count-on, count-done}
 use Rattle.machine.proofs.Meetings.{otherWaits, disputes, waits-nowhere, skips}

@@ -3,7 +3,7 @@ use mathlib.Core.Path.{_≡_, sym, ap, _∙_}
 use native.Mathlib.Omega.{arith}
 use borrow.Author.Needs.{needs}
 use lib.ListN.{length, length-map, List·getD-eq-default}
-use Rattle.machine.specs.Machine.{zeroThread}
+use Rattle.thread_entry.specs.Entry.{zeroThread}
 use Rattle.machine.proofs.record.Machine.status_at.Statement.{statement}
 use Rattle.machine.proofs.record.Machine.status_at.Tie as tie
 

@@ -21,7 +21,7 @@ loop-again : tie.Need-loop-again Inv-loop μ-loop
 loop-again c =
     let l = c .before .before .before .before .loop in
     let a = c .before .before .before .before .before .args in
-    (omega arith, rw (c .with-status .ensures, c .before .either .ensures) (placed-step (a .t1) (a .thread) (a .status) (l .t) (l .self) (l .inv .1)))
+    (omega arith, rw (c .new .ensures, c .before .either .ensures) (placed-step (a .t1) (a .thread) (a .status) (l .t) (l .self) (l .inv .1)))
 
 returns : tie.Need-returns Inv-loop μ-loop
 returns c =

@@ -1,7 +1,0 @@
--- `is_digit` meets its contract.
-use borrow.Author.Needs.{needs}
-use Rattle.expression.proofs.byte.is_digit.Statement.{statement}
-use Rattle.expression.proofs.byte.is_digit.Tie as tie
-
-pub is-digit-spec : {M : Type 1} → statement M
-is-digit-spec = tie.close (tie.spec (λ c. search needs))

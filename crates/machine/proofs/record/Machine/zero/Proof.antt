@@ -1,7 +1,0 @@
--- `record::Machine::zero` meets its contract.
-use borrow.Author.Needs.{needs}
-use Rattle.machine.proofs.record.Machine.zero.Statement.{statement}
-use Rattle.machine.proofs.record.Machine.zero.Tie as tie
-
-pub zero-spec : {M : Type 1} → statement M
-zero-spec = tie.close (tie.spec (λ c κs. search needs) (λ c. rw (c .zero .ensures)))

@@ -1,0 +1,4 @@
+-- The compares of words: what the contracts cite.
+pub mod Compare
+pub mod Order
+pub mod Claims
