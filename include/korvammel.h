@@ -4,15 +4,16 @@
  * this table. Where it answers a number of the table, every lent array holds what it held before, except where the function says
  * otherwise. (korvammel_name answers a length.)
  *
- * The library is for x86-64 Linux, in C's own calling convention there. A call needs at most 3,328 bytes of stack (on words; the
- * others under 1,536), but for korvammel_assemble, which says its own. It uses the red zone, the 128 bytes below the stack pointer,
- * which are among these: an interrupt that comes in on the same stack has to leave them alone. Of the C library it calls memset.
+ * The library is for x86-64 Linux, in C's own calling convention there. A call needs at most 3,584 bytes of stack (a traced run; on
+ * words 3,328, the others under 1,536), but for korvammel_assemble, which says its own. It uses the red zone, the 128 bytes below the
+ * stack pointer, which are among these: an interrupt that comes in on the same stack has to leave them alone. Of the C library it calls
+ * memset alone.
  *
- * Float words (R opcodes 33 to 42) are worked out by the processor's float unit: korvammel_run and korvammel_night_minute have to be
- * called with the default floating-point environment, rounding to nearest, with no flush to zero and no denormals as zero (MXCSR as the
- * system sets it). A program that is linked with -ffast-math (or -Ofast, -funsafe-math-optimizations) does not have it: what GCC links
- * in then sets both at the start. Nor has one that calls fesetround or writes MXCSR and does not set it back. Floating-point exceptions
- * have to stay masked, as they are there: a run sets the flags of that environment.
+ * Float words (R opcodes 33 to 42) are worked out by the processor's float unit: korvammel_run, korvammel_run_traced and
+ * korvammel_night_minute have to be called with the default floating-point environment, rounding to nearest, with no flush to zero and no
+ * denormals as zero (MXCSR as the system sets it). A program that is linked with -ffast-math (or -Ofast, -funsafe-math-optimizations)
+ * does not have it: what GCC links in then sets both at the start. Nor has one that calls fesetround or writes MXCSR and does not set it
+ * back. Floating-point exceptions have to stay masked, as they are there: a run sets the flags of that environment.
  *
  * A pointer is never null, and is aligned for its type. It points to an array of the length that stands beside it, or of the length
  * in brackets. An array that a call writes shares no byte with another that the call takes.
@@ -165,6 +166,28 @@ uint32_t korvammel_start(uint32_t mask, uint32_t *registers, size_t registers_le
  * the table, every number of `result` becomes 0 (refused, no issue, no look), and all else is left. */
 uint32_t korvammel_run(const uint32_t *program, size_t program_length, uint32_t *registers, size_t registers_length, uint8_t *memory,
                        size_t memory_length, uint8_t record[KORVAMMEL_RECORD], uint32_t budget, uint32_t result[KORVAMMEL_RESULT]);
+
+/* Numbers of a row of a trace, one row for each issue in order: the thread; the address of its word, s63 before the issue; the word, 0
+ * where s63 is no word's address, so that none was fetched; and the thread's status after the issue, with its reason, barrier id and
+ * count, 0 where that status does not carry them. */
+#define KORVAMMEL_ROW 7
+#define KORVAMMEL_ROW_THREAD(i) (7 * (i))
+#define KORVAMMEL_ROW_ADDRESS(i) (7 * (i) + 1)
+#define KORVAMMEL_ROW_WORD(i) (7 * (i) + 2)
+#define KORVAMMEL_ROW_STATUS(i) (7 * (i) + 3)
+#define KORVAMMEL_ROW_REASON(i) (7 * (i) + 4)
+#define KORVAMMEL_ROW_BARRIER(i) (7 * (i) + 5)
+#define KORVAMMEL_ROW_COUNT(i) (7 * (i) + 6)
+
+/* Runs a program as korvammel_run does, with the smaller of the budget and the number of whole rows that `rows` has room for
+ * (rows_length / KORVAMMEL_ROW, and it may be 0), and puts a row for each issue at the start of `rows`: row i, counted from 0, is issue
+ * i + 1. What stands behind the last row is left, and so is what is left over of a length that is no whole number of rows. Answers what
+ * korvammel_run answers; where that is a number of the table, `rows` is left too. To go on with a list that was too short, call it again
+ * with what is left of the budget: the issues are those of one longer call, and so is all but `result`, whose looks count the thread
+ * that is next in both. */
+uint32_t korvammel_run_traced(const uint32_t *program, size_t program_length, uint32_t *registers, size_t registers_length, uint8_t *memory,
+                              size_t memory_length, uint8_t record[KORVAMMEL_RECORD], uint32_t budget, uint32_t *rows,
+                              size_t rows_length, uint32_t result[KORVAMMEL_RESULT]);
 
 /* Numbers that the night box keeps from call to call: { 0, any } before the first, and then { 1, the minute } of the last call that was
  * not refused. Any first number but 0 says that the second is a minute. */

@@ -7,8 +7,8 @@
 
 #include "korvammel.h"
 
-enum { START, RUN, WRITE, READ, WRITE_OLD, WORDS, EXPORT, IMPORT, ASSEMBLE, NIGHT, EMPTY, CALLS };
-static const char *const names[CALLS] = {"start", "run", "image_write", "image_read", "image_write_old",
+enum { START, RUN, TRACED, WRITE, READ, WRITE_OLD, WORDS, EXPORT, IMPORT, ASSEMBLE, NIGHT, EMPTY, CALLS };
+static const char *const names[CALLS] = {"start", "run", "run_traced", "image_write", "image_read", "image_write_old",
                                          "words", "hex_export", "hex_import", "assemble", "night_minute"};
 
 static uint8_t stack[1 << 20];
@@ -16,6 +16,7 @@ static ucontext_t here, there;
 static int call;
 
 static uint32_t program[16384], registers[KORVAMMEL_REGISTERS];
+static uint32_t rows[1000 * KORVAMMEL_ROW];
 static size_t words;
 static uint8_t text[KORVAMMEL_HEX(16384)];
 static size_t length;
@@ -43,6 +44,10 @@ static void make(void) {
     switch (call) {
     case START: korvammel_start(3, registers, KORVAMMEL_REGISTERS, record); break;
     case RUN: korvammel_run(program, words, registers, KORVAMMEL_REGISTERS, memory, sizeof memory, record, 1000, result); break;
+    case TRACED:
+        korvammel_run_traced(program, words, registers, KORVAMMEL_REGISTERS, memory, sizeof memory, record, 1000, rows, sizeof rows / 4,
+                             result);
+        break;
     case WRITE: korvammel_image_write(registers, KORVAMMEL_REGISTERS, memory, sizeof memory, record, image, sizeof image); break;
     case READ: korvammel_image_read(image, sizeof image, registers, KORVAMMEL_REGISTERS, memory, sizeof memory, record); break;
     case WRITE_OLD: korvammel_image_write_old(registers, KORVAMMEL_REGISTERS, memory, sizeof memory, record, 1, old, sizeof old); break;

@@ -10,4 +10,5 @@ pub mod machine;
 pub mod night;
 pub mod run;
 pub mod sources;
+pub mod trace;
 pub mod word;

@@ -1,5 +1,6 @@
-// The runner: reads a program, starts a machine or resumes a saved one, runs the program on it, saves it where asked, and prints how
-// the run ended.
+// The runner: reads a program, starts a machine or resumes a saved one, runs the program on it, prints a line for an issue where asked,
+// saves the machine where asked, and prints how the run ended.
+mod going_on;
 mod saving;
 mod settings;
 
@@ -40,23 +41,11 @@ fn print_looks(looks: u64) {
     files::write_stream(STDOUT_FILENO, b"write standard output", &text[..length]);
 }
 
-// Runs the program, saves the machine where asked, and prints how the run ended: in this order, so that nothing is printed of a run
-// whose machine was to be saved and was not.
-fn run(
-    settings: Settings,
-    program: &[u32],
-    registers: &mut [u32; REGISTER_WORDS],
-    memory: &mut [u8],
-    machine: Machine,
-)
+// Saves the machine where asked, and prints how the run ended: in this order, so that that is not printed of a run whose machine was to
+// be saved and was not.
+fn finish(settings: Settings, registers: &[u32; REGISTER_WORDS], memory: &[u8], run: Run)
     requires { ⌜ length (now memory) ≤ memoryBytes ⌝ }
 {
-    let run = interpreter::run(program, registers, memory, machine, settings.budget);
-    let answer = run.answer;
-    if let RunAnswer::Refused(number) = answer {
-        refuse(number);
-        return;
-    }
     let machine = run.machine;
     if settings.save {
         let saved = saving::save(registers, memory, machine);
@@ -67,6 +56,36 @@ fn run(
     let printed = print(run, registers);
     if printed & settings.looks {
         print_looks(run.looks);
+    }
+}
+
+// Runs the program. Where a line of its trace is lost, that is the end.
+fn run(
+    settings: Settings,
+    program: &[u32],
+    registers: &mut [u32; REGISTER_WORDS],
+    memory: &mut [u8],
+    machine: Machine,
+)
+    requires { ⌜ length (now memory) ≤ memoryBytes ⌝ }
+{
+    let first = interpreter::run(program, registers, memory, machine, settings.budget);
+    let answer = first.answer;
+    if let RunAnswer::Refused(number) = answer {
+        refuse(number);
+        return;
+    }
+    let traced = going_on::go_on(
+        program,
+        registers,
+        memory,
+        first,
+        settings.rows,
+        settings.rest,
+    );
+    if traced.printed {
+        let whole = traced.run;
+        finish(settings, registers, memory, whole);
     }
 }
 

@@ -1,8 +1,9 @@
-// The arguments, six decimal numbers that the command gives: MASK MEMORY BUDGET RESUME SAVE LOOKS.
+// The arguments, eight decimal numbers that the command gives: MASK MEMORY BUDGET RESUME SAVE LOOKS ROWS REST.
 use files::complain;
 use text::Argument;
 
-// What a run goes by. A machine that is resumed has its own mask and memory.
+// What a run goes by. A machine that is resumed has its own mask and memory. Of the issues, the first `budget` are made, then `rows` with a
+// line for each, and then `rest`.
 pub struct Settings {
     pub mask: u32,
     pub memory: u32,
@@ -10,6 +11,8 @@ pub struct Settings {
     pub resume: bool,
     pub save: bool,
     pub looks: bool,
+    pub rows: u32,
+    pub rest: u32,
     pub given: bool,
 }
 
@@ -21,7 +24,9 @@ fn number_at(i: usize) -> Argument {
 }
 
 fn missing() -> Settings {
-    complain(b"the runner takes six numbers: mask, memory, budget, resume, save, looks");
+    complain(
+        b"the runner takes eight numbers: mask, memory, budget, resume, save, looks, rows, rest",
+    );
     Settings {
         mask: 0,
         memory: 0,
@@ -29,6 +34,8 @@ fn missing() -> Settings {
         resume: false,
         save: false,
         looks: false,
+        rows: 0,
+        rest: 0,
         given: false,
     }
 }
@@ -53,6 +60,12 @@ pub fn read_settings() -> Settings {
     let Argument::Number(looks) = number_at(6) else {
         return missing();
     };
+    let Argument::Number(rows) = number_at(7) else {
+        return missing();
+    };
+    let Argument::Number(rest) = number_at(8) else {
+        return missing();
+    };
     Settings {
         mask,
         memory,
@@ -60,6 +73,8 @@ pub fn read_settings() -> Settings {
         resume: resume != 0,
         save: save != 0,
         looks: looks != 0,
+        rows,
+        rest,
         given: true,
     }
 }

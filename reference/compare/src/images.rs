@@ -36,7 +36,16 @@ fn other(form: Form) -> Form {
 }
 
 #[allow(clippy::too_many_arguments)]
-fn write(random: &mut Random, form: Form, room: &[u32], memory: &[u8], record: &Record, opening: &Opening, verdicts: &Verdicts, tally: &mut Tally) {
+fn write(
+    random: &mut Random,
+    form: Form,
+    room: &[u32],
+    memory: &[u8],
+    record: &Record,
+    opening: &Opening,
+    verdicts: &Verdicts,
+    tally: &mut Tally,
+) {
     let sized = if random.one_in(30) { other(form) } else { form };
     let length = image::length(sized, memory.len()) + if random.one_in(30) { 1 } else { 0 };
     let (mut buffer, mut buffer2) = (vec![5; length], vec![5; length]);

@@ -26,6 +26,19 @@ extern "C" {
         budget: u32,
         result: *mut u32,
     ) -> u32;
+    fn korvammel_run_traced(
+        program: *const u32,
+        program_length: usize,
+        registers: *mut u32,
+        registers_length: usize,
+        memory: *mut u8,
+        memory_length: usize,
+        record: *mut u8,
+        budget: u32,
+        rows: *mut u32,
+        rows_length: usize,
+        result: *mut u32,
+    ) -> u32;
     fn korvammel_night_minute(
         program: *const u32,
         program_length: usize,
@@ -116,6 +129,32 @@ pub fn run(program: &[u32], registers: &mut [u32], memory: &mut [u8], record: &m
             memory.len(),
             record.as_mut_ptr(),
             budget,
+            result.as_mut_ptr(),
+        )
+    }
+}
+
+pub fn run_traced(
+    program: &[u32],
+    registers: &mut [u32],
+    memory: &mut [u8],
+    record: &mut Opening,
+    budget: u32,
+    rows: &mut [u32],
+    result: &mut [u32; 4],
+) -> u32 {
+    unsafe {
+        korvammel_run_traced(
+            program.as_ptr(),
+            program.len(),
+            registers.as_mut_ptr(),
+            registers.len(),
+            memory.as_mut_ptr(),
+            memory.len(),
+            record.as_mut_ptr(),
+            budget,
+            rows.as_mut_ptr(),
+            rows.len(),
             result.as_mut_ptr(),
         )
     }

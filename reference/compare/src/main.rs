@@ -10,6 +10,7 @@ mod night;
 mod records;
 mod runs;
 mod sources;
+mod traces;
 mod words;
 
 use compare::report::{compare, repeated, Reach, Tally, VECTORS};
@@ -30,6 +31,7 @@ fn main() {
     let verdicts = records::Verdicts::new();
     let refusals = |seed, tally: &mut Tally| runs::refusals(seed, &verdicts, tally);
     let night = |seed, tally: &mut Tally| night::calls(seed, &verdicts, tally);
+    let traced_refusals = |seed, tally: &mut Tally| traces::refusals(seed, &verdicts, tally);
     let images = |seed, tally: &mut Tally| images::both_ways(seed, &verdicts, tally);
     let (names, edges) = (sources::names(), reference::sources::all());
     let assembling = |seed, tally: &mut Tally| sources::assembling(seed, &names, tally);
@@ -84,6 +86,20 @@ fn main() {
             seeds: repeated(200_000),
             reach: Reach::Anything,
             case: &refusals,
+        },
+        Part {
+            name: "traces",
+            title: "lists of traced runs",
+            seeds: repeated(100_000),
+            reach: Reach::Kinds(&traces::KINDS),
+            case: &traces::lists,
+        },
+        Part {
+            name: "traced-refusals",
+            title: "hostile records run traced",
+            seeds: repeated(50_000),
+            reach: Reach::Anything,
+            case: &traced_refusals,
         },
         Part {
             name: "hex",

@@ -12,19 +12,19 @@ use reference::run::{run, run_seen};
 use reference::word::{write, Instruction};
 
 /// Two machines that must stay the same: the second program's, and the library's.
-struct Pair {
-    machine: Machine,
-    room2: Vec<u32>,
-    memory2: Vec<u8>,
-    record2: Opening,
+pub struct Pair {
+    pub machine: Machine,
+    pub room2: Vec<u32>,
+    pub memory2: Vec<u8>,
+    pub record2: Opening,
 }
 
 impl Pair {
-    fn new(machine: Machine, record2: Opening) -> Pair {
+    pub fn new(machine: Machine, record2: Opening) -> Pair {
         Pair { room2: machine.room.clone(), memory2: machine.memory.clone(), machine, record2 }
     }
 
-    fn started(random: &mut Random) -> Pair {
+    pub fn started(random: &mut Random) -> Pair {
         let mask = mask(random);
         let mut machine = Machine::started(random, mask);
         let (mut room2, mut record2) = (vec![2; ROOM_WORDS], [3; 92]);
@@ -35,13 +35,13 @@ impl Pair {
         Pair::new(machine, record2)
     }
 
-    fn same(&self) {
+    pub fn same(&self) {
         same("register word", &self.machine.room, &self.room2);
         same("memory byte", &self.machine.memory, &self.memory2);
     }
 
     /// Makes the second program's machine ready for a program, and the library's like it.
-    fn prepare(&mut self, random: &mut Random, words: usize) {
+    pub fn prepare(&mut self, random: &mut Random, words: usize) {
         self.machine.prepare(random, words);
         for t in 0..8 {
             self.room2[64 * t + 63] = self.machine.room[64 * t + 63];

@@ -1,0 +1,4 @@
+-- The C library's traced run: what the contracts cite.
+pub mod Numbers
+pub mod Pages
+pub mod Calls
