@@ -9,7 +9,7 @@ use borrow.Author.Tests.{eqb-true, le-ltb, ltb-true, ltb-false}
 use lib.Dec.{eqb, ltb}
 use lib.ListN.{length}
 use Rattle.answer.specs.Answer.{given}
-use Rattle.answer.specs.Refusal.{badProgram}
+use Rattle.answer.specs.Refusal.{programWords, badProgram}
 use Rattle.isa.specs.Read.{read}
 use Rattle.statement.specs.Types.{Instruction}
 use Rattle.statement.specs.Field.{valueIn, nth}
@@ -138,9 +138,9 @@ bad-by vs true c h = refl
 bad-by vs false true h = let q : at-line 18 0 ≡ at-line 1 0 = cc in let k : _≡_ {A = ℕ} 18 1 = ap (λ y. y .number) q in absurd (omega arith)
 bad-by vs false false h = absurd (let z : _≡_ {A = ℕ} 0 1 = cc in omega arith)
 
-zero-by : (n : ℕ) (b : Bool) → eqb n 0 ≡ b → n ≤ 16384 → b || ltb 16384 n ≡ true → n ≡ 0
+zero-by : (n : ℕ) (b : Bool) → eqb n 0 ≡ b → n ≤ programWords → b || ltb programWords n ≡ true → n ≡ 0
 zero-by n true e h p = eqb-true n 0 e
-zero-by n false e h p = absurd (omega (arith, ltb-true 16384 n p))
+zero-by n false e h p = absurd (omega (arith, ltb-true programWords n p))
 
 one-by : (source : List ℕ) (room : ℕ) (b : Bool) → ltb 65536 (length source) ≡ b → cond b (refused (at-line 12 0)) (ofTexts room source) ≡ refused (at-line 1 0) → Accepted source × (count (linesOf source) ≡ 0)
 unfolding FewWords

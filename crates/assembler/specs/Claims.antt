@@ -6,6 +6,7 @@ use mathlib.Core.Option.{Option, none, some}
 use mathlib.Core.Path.{_≡_}
 use lib.ListN.{length}
 use Rattle.answer.specs.Answer.{given}
+use Rattle.answer.specs.Refusal.{programWords}
 use Rattle.isa.specs.Read.{read}
 use Rattle.statement.specs.Types.{Instruction}
 use Rattle.statement.specs.Field.{valueIn}
@@ -43,7 +44,7 @@ ReadsBack =
 
 -- A source has at most as many instructions as a program has words.
 unfoldable pub FewWords : Type 0
-FewWords = (source : List ℕ) → length source ≤ 65536 → count (linesOf source) ≤ 16384
+FewWords = (source : List ℕ) → length source ≤ 65536 → count (linesOf source) ≤ programWords
 
 -- no pass refuses a line
 pub record Accepted (source : List ℕ) : Type 0 where

@@ -3,6 +3,7 @@ ghost use mathlib.Core.List.{[], _∷_, _++_};
 ghost use mathlib.Core.Path.{_≡_};
 ghost use Prim.Native.Nat.{_+_, _*_, _/_, _%_, _≤_, _<_};
 ghost use lib.ListN.{length, getD, take, drop};
+ghost use Rattle.answer.specs.Refusal.{programWords};
 ghost use Rattle.text.specs.Buffer.{wrote, writes};
 ghost use Rattle.text.specs.Number.{digit};
 ghost use Rattle.hex.specs.Digits.{hexes, total};
@@ -134,7 +135,7 @@ fn record_size(left: usize) -> usize
 
 // Puts a program's records, and answers the place behind them.
 fn put_body(words: &[u32], out: &mut [u8]) -> usize
-    requires { ⌜ (length (now words) ≤ 16384) × (textLength (length (now words)) ≤ length (now out)) ⌝ }
+    requires { ⌜ (length (now words) ≤ programWords) × (textLength (length (now words)) ≤ length (now out)) ⌝ }
     ensures { λ r. ⌜ wrote r (now (out .exit)) ≡ writes (now (out .entry)) 0 (body (programBytes (now (words .entry))) ((length (now (words .entry)) + 3) / 4)) ⌝ }
 {
     let count = (words.len() + 3) / 4;
