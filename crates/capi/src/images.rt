@@ -3,18 +3,18 @@ ghost use mathlib.Core.Path.{_≡_};
 ghost use Rattle.answer.specs.Left.{left};
 ghost use Rattle.answer.specs.Refusal.{firstThatApplies, numberOf};
 ghost use Rattle.image.specs.Opening.{readOpening};
-ghost use Rattle.capi.specs.Images.{writeCall, writeOldCall, restored, readCall};
+ghost use Rattle.capi.specs.Images.{writeAs, writeCall, writeOldCall, restored, readCall};
 ghost use Rattle.capi.specs.Refusal.{recordChecks};
 use crate::numbers::read_number;
 use crate::numbers::wide;
 use crate::numbers::write_number;
-use answer::FIXED_PART;
-use answer::OLD_FIXED_PART;
 use answer::Verdict;
 use answer::first_refusal;
 use answer::sizes_verdict;
 use image::Judgement;
 use image::RECORD_LENGTH;
+use image_layout::Form;
+use image_layout::fixed_part;
 
 // The verdict on an image that is to be written, by its lengths and then by the record's bytes; and the record.
 fn judge(
@@ -34,18 +34,19 @@ fn judge(
     Judgement { verdict, machine }
 }
 
-// Writes a machine's image.
-#[no_mangle]
-pub extern "C" fn korvammel_image_write(
+// Writes a machine's image in a form.
+fn write_in(
+    form: Form,
+    dropping: bool,
     registers: &[u32],
     memory: &[u8],
     bytes: &[u8; RECORD_LENGTH],
     buffer: &mut [u8],
 ) -> u32
-    ensures { λ r. ⌜ left r (now (buffer .exit)) ≡ writeCall (now (registers .entry)) (now (memory .entry)) (now (bytes .entry)) (now (buffer .entry)) ⌝ }
+    ensures { λ r. ⌜ left r (now (buffer .exit)) ≡ writeAs form dropping (now (registers .entry)) (now (memory .entry)) (now (bytes .entry)) (now (buffer .entry)) ⌝ }
 {
     let judgement = judge(
-        FIXED_PART,
+        fixed_part(form),
         registers.len(),
         memory.len(),
         buffer.len(),
@@ -56,10 +57,23 @@ pub extern "C" fn korvammel_image_write(
     match verdict {
         Verdict::Refused(number) => wide(number),
         Verdict::Accepted => {
-            let answer = image::write(registers, memory, machine, buffer);
+            let answer = image::write_as(form, dropping, registers, memory, machine, buffer);
             write_number(answer)
         }
     }
+}
+
+// Writes a machine's image.
+#[no_mangle]
+pub extern "C" fn korvammel_image_write(
+    registers: &[u32],
+    memory: &[u8],
+    bytes: &[u8; RECORD_LENGTH],
+    buffer: &mut [u8],
+) -> u32
+    ensures { λ r. ⌜ left r (now (buffer .exit)) ≡ writeCall (now (registers .entry)) (now (memory .entry)) (now (bytes .entry)) (now (buffer .entry)) ⌝ }
+{
+    write_in(Form::Newest, false, registers, memory, bytes, buffer)
 }
 
 // Writes a machine's image in the old form; any `drop` but 0 allows its counts of turns to be dropped.
@@ -73,22 +87,7 @@ pub extern "C" fn korvammel_image_write_old(
 ) -> u32
     ensures { λ r. ⌜ left r (now (buffer .exit)) ≡ writeOldCall (now (registers .entry)) (now (memory .entry)) (now (bytes .entry)) drop (now (buffer .entry)) ⌝ }
 {
-    let judgement = judge(
-        OLD_FIXED_PART,
-        registers.len(),
-        memory.len(),
-        buffer.len(),
-        bytes,
-    );
-    let verdict = judgement.verdict;
-    let machine = judgement.machine;
-    match verdict {
-        Verdict::Refused(number) => wide(number),
-        Verdict::Accepted => {
-            let answer = image::write_old(registers, memory, machine, drop != 0, buffer);
-            write_number(answer)
-        }
-    }
+    write_in(Form::Old, drop != 0, registers, memory, bytes, buffer)
 }
 
 // Reads an image into registers, memory and machine record.

@@ -1,7 +1,7 @@
 -- The bodies of a state's records are as long as their rows say.
-use Prim.Native.Nat.{ℕ, _*_, _<_}
-use mathlib.Core.List.{List}
-use mathlib.Core.Path.{_≡_, refl}
+use Prim.Native.Nat.{ℕ, _*_, _-_, _≤_, _<_}
+use mathlib.Core.List.{List, _++_}
+use mathlib.Core.Path.{_≡_, refl, ap}
 use native.Mathlib.Omega.{arith}
 use lib.ListN.{length, take, drop, length-drop}
 use lib.Seq.{length-take-le}
@@ -10,7 +10,8 @@ use Rattle.image_layout.proofs.Join.{fits-in}
 use Rattle.image_layout.proofs.Rows.{laid-length}
 use Rattle.image_layout.specs.Layout.{kinds, threadRow, rowOf, Numbered, startOf}
 use Rattle.little_endian.proofs.Numbers.{bytes-length, bytes-of-length}
-use Rattle.image.specs.Image.{shapeOf, Lengths, Suits, fieldBytes, bodyOf, image}
+use Rattle.little_endian.specs.Numbers.{numberBytes}
+use Rattle.image.specs.Image.{shapeOf, Lengths, Suits, statusBytes, fieldBytes, bodyOf, image}
 use Rattle.image.specs.Types.{Kind, Hd, Ti, Sr, Vr, Mm, Form, Newest, Old, Shape, ThreadFields}
 
 -- what each kind asks of the lengths, they have
@@ -32,12 +33,25 @@ place-fits a registers memory Sr i w l = omega arith
 place-fits a registers memory Vr i w l = omega arith
 place-fits a registers memory Mm i w l = omega (arith, w .few)
 
+pub numbered : (a : Shape) → a .blocks ≤ 65536 → (k : Kind) (i : ℕ) → i < rowOf a k .count → Numbered (rowOf a k .places) i
+numbered a few Hd i l = tt
+numbered a few Ti i l = entry-fits (a .form) i l
+numbered a few Sr i l = omega arith
+numbered a few Vr i l = omega arith
+numbered a few Mm i l = omega arith
+
 block-length : (n b i : ℕ) (l : List ℕ) → n * b ≡ length l → i < b → length (take n (drop (n * i) l)) ≡ n
 block-length n b i l e h = length-take-le n (drop (n * i) l) (rw (length-drop (n * i) l) (omega (arith, fits-in n i b h)))
 
 pub entry-length : (f : Form) (n : ThreadFields) → length (fieldBytes f n) ≡ threadRow f .size
 entry-length Newest n = omega (arith, bytes-length 4 (n .turns))
 entry-length Old n = refl
+
+-- its bytes: those of the status, and as many of the count of turns as are left
+pub entry-parts : (f : Form) (n : ThreadFields) (size : ℕ) → size ≡ threadRow f .size → statusBytes n ++ numberBytes (size - 4) (n .turns) ≡ fieldBytes f n
+unfolding numberBytes
+entry-parts Newest n size e = ap (λ k. statusBytes n ++ numberBytes (k - 4) (n .turns)) e
+entry-parts Old n size e = ap (λ k. statusBytes n ++ numberBytes (k - 4) (n .turns)) e
 
 -- the body of a record is as long as its row says
 pub body-length-of : (a : Shape) (s : State) (k : Kind) → Suits a k (s .registers) (s .memory) → (i : ℕ) → i < rowOf a k .count

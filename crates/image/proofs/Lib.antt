@@ -1,6 +1,7 @@
 -- The laws that several proofs cite, and the proofs of the claims.
 pub mod Bodies
 pub mod Words
+pub mod FourBytes
 pub mod Numbers
 pub mod Refusals
 pub mod RecordIn

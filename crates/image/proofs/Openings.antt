@@ -1,5 +1,5 @@
 -- How many the bytes of a machine record are, that what is accepted of them is well formed, and its image opens with them.
-use Prim.Native.Nat.{ℕ}
+use Prim.Native.Nat.{ℕ, zero, suc}
 use mathlib.Core.Bool.{true, and-eq-true-iff}
 use mathlib.Core.List.{List, [], _++_}
 use mathlib.Core.Option.{none}
@@ -15,7 +15,7 @@ use Rattle.image_layout.proofs.Rows.{section-length}
 use Rattle.image_layout.specs.Join.{total, concatBelow, allBelow}
 use Rattle.image_layout.specs.Layout.{recordKinds, rowOf, laidOut, sectionOf, startOf, headsUpTo}
 use Rattle.image.specs.Claims.{OpensWith}
-use Rattle.image.specs.Image.{shapeOf, bodyOf, image, isEntry, entryIn, machineIn, recordIn}
+use Rattle.image.specs.Image.{shapeOf, SuitsUpTo, bodyOf, image, isEntry, entryIn, machineIn, recordIn}
 use Rattle.image.specs.Opening.{noBlocks, recordBytes, recordLength, openingNumber, readOpening}
 use Rattle.image.specs.Refusal.{contentNumber}
 use Rattle.image.specs.Types.{Hd, Ti, Sr, Vr, Mm, Newest, Machine}
@@ -25,6 +25,12 @@ use Rattle.image.proofs.Bodies.{body-length-of}
 pub opening-start : startOf noBlocks recordKinds ≡ recordLength
 unfolding startOf total
 opening-start = omega arith
+
+-- they ask for no register and no memory
+pub opening-suits : SuitsUpTo recordKinds noBlocks [] []
+opening-suits zero l = tt
+opening-suits (suc zero) l = tt
+opening-suits (suc (suc q)) l = absurd (omega arith)
 
 module _ (m : Machine) where
   abbrev alone : State

@@ -1,5 +1,5 @@
 -- The machine record that an image holds, found at its fixed places.
-use Prim.Native.Nat.{ℕ, _+_, _*_, _≤_, _<_}
+use Prim.Native.Nat.{ℕ, _+_, _*_, _/_, _%_, _≤_, _<_}
 use mathlib.Core.Bool.{Bool, _&&_}
 use mathlib.Core.List.{List, [], _∷_}
 use mathlib.Core.Path.{_≡_, refl, sym, ap, _∙_}
@@ -19,7 +19,7 @@ use Rattle.little_endian.specs.Numbers.{numberAt}
 use Rattle.image.specs.Fields.{fields, threadOf}
 use Rattle.machine.specs.WellFormed.{wellFormed}
 use Rattle.image.specs.Image.{fieldsIn, isEntry, entryOr, entryIn, threadsIn, machineIn, recordIn}
-use Rattle.image.specs.Types.{Hd, Ti, Form, Shape, Kind, Thread, Machine}
+use Rattle.image.specs.Types.{Hd, Ti, Form, Newest, Old, Shape, Kind, Thread, Machine}
 
 -- a byte of a part
 pub part-byte : (l : List ℕ) (at w k : ℕ) → k < w → getD (take w (drop at l)) k 0 ≡ getD l (at + k) 0
@@ -29,14 +29,14 @@ pub part-first : (l : List ℕ) (at w : ℕ) → 0 < w → getD (take w (drop at
 part-first l at w h = part-byte l at w 0 h ∙ ap (λ z. getD l z 0) (let z : at + 0 ≡ at = omega arith in z)
 
 -- the count of turns in an entry's bytes, and past the end of those of the old form
-pub turns-newest : (l : List ℕ) (at : ℕ) → numberAt 4 l (at + 4) ≡ numberAt 4 (take 8 (drop at l)) 4
+turns-newest : (l : List ℕ) (at : ℕ) → numberAt 4 l (at + 4) ≡ numberAt 4 (take 8 (drop at l)) 4
 turns-newest l at = sym (cut 4 8 (drop at l) 4 (omega arith) ∙ behind 4 l at 4)
 
-pub turns-old : (l : List ℕ) (at : ℕ) → at + 4 ≤ length l → 0 ≡ numberAt 4 (take 4 (drop at l)) 4
+turns-old : (l : List ℕ) (at : ℕ) → at + 4 ≤ length l → 0 ≡ numberAt 4 (take 4 (drop at l)) 4
 turns-old l at h = sym (past-end 4 (take 4 (drop at l)) 4 (le-of-eq (length-take-le 4 (drop at l) (rw (length-drop at l) (omega arith)))))
 
 -- the numbers of the entry at a place
-pub fields-at : (f : Form) (l : List ℕ) (at turns : ℕ) → turns ≡ numberAt 4 (take (threadRow f .size) (drop at l)) 4
+fields-at : (f : Form) (l : List ℕ) (at turns : ℕ) → turns ≡ numberAt 4 (take (threadRow f .size) (drop at l)) 4
     → fields (getD l at 0) (getD l (at + 1) 0) (getD l (at + 2) 0) (getD l (at + 3) 0) turns ≡ fieldsIn (take (threadRow f .size) (drop at l))
 fields-at f l at turns e =
     let w = threadRow f .size in
@@ -45,6 +45,44 @@ fields-at f l at turns e =
     let p2 = sym (part-byte l at w 2 (omega (arith, entry-least f))) in
     let p3 = sym (part-byte l at w 3 (omega (arith, entry-least f))) in
     (λ i. fields (p0 i) (p1 i) (p2 i) (p3 i) (e i))
+
+-- an entry's bytes as one number, and the numbers taken from it
+low : (x m : ℕ) → x < 256 → (x + 256 * m) % 256 ≡ x
+low x m h = omega arith
+
+high : (x m : ℕ) → x < 256 → (x + 256 * m) / 256 ≡ m
+high x m h = omega arith
+
+taken-apart : (x y z w r n : ℕ) → x < 256 → y < 256 → z < 256 → w < 256 → n ≡ x + 256 * (y + 256 * (z + 256 * (w + 256 * r)))
+    → fields (n % 256) (n / 256 % 256) (n / 256 / 256 % 256) (n / 256 / 256 / 256 % 256) (n / 256 / 256 / 256 / 256) ≡ fields x y z w r
+taken-apart x y z w r n a b c d e =
+    let p : n / 256 ≡ y + 256 * (z + 256 * (w + 256 * r)) = ap (λ k. k / 256) e ∙ high x _ a in
+    let q : n / 256 / 256 ≡ z + 256 * (w + 256 * r) = ap (λ k. k / 256) p ∙ high y _ b in
+    let s : n / 256 / 256 / 256 ≡ w + 256 * r = ap (λ k. k / 256) q ∙ high z _ c in
+    let t : n / 256 / 256 / 256 / 256 ≡ r = ap (λ k. k / 256) s ∙ high w r d in
+    let f = ap (λ k. k % 256) e ∙ low x _ a in
+    let g = ap (λ k. k % 256) p ∙ low y _ b in
+    let h = ap (λ k. k % 256) q ∙ low z _ c in
+    let k = ap (λ k. k % 256) s ∙ low w r d in
+    (λ i. fields (f i) (g i) (h i) (k i) (t i))
+
+module _ (l : List ℕ) (at n : ℕ) (b : (k : ℕ) → getD l k 0 < 256) where
+  four-of-entry : (r : ℕ) → n ≡ getD l at 0 + 256 * (getD l (at + 1) 0 + 256 * (getD l (at + 1 + 1) 0 + 256 * (getD l (at + 1 + 1 + 1) 0 + 256 * r)))
+      → fields (n % 256) (n / 256 % 256) (n / 256 / 256 % 256) (n / 256 / 256 / 256 % 256) (n / 256 / 256 / 256 / 256)
+      ≡ fields (getD l at 0) (getD l (at + 1) 0) (getD l (at + 2) 0) (getD l (at + 3) 0) r
+  four-of-entry r e =
+      let y : at + 1 + 1 ≡ at + 2 = omega arith in
+      let z : at + 1 + 1 + 1 ≡ at + 3 = omega arith in
+      taken-apart _ _ _ _ r n (b at) (b (at + 1)) (b (at + 1 + 1)) (b (at + 1 + 1 + 1)) e
+      ∙ (λ i. fields (getD l at 0) (getD l (at + 1) 0) (getD l (y i) 0) (getD l (z i) 0) r)
+
+  pub entry-number : (f : Form) → at + threadRow f .size ≤ length l → n ≡ numberAt (threadRow f .size) l at
+      → fields (n % 256) (n / 256 % 256) (n / 256 / 256 % 256) (n / 256 / 256 / 256 % 256) (n / 256 / 256 / 256 / 256) ≡ fieldsIn (take (threadRow f .size) (drop at l))
+  unfolding numberAt
+  entry-number Newest h e =
+      let z : at + 1 + 1 + 1 + 1 ≡ at + 4 = omega arith in
+      four-of-entry (numberAt 4 l (at + 1 + 1 + 1 + 1)) e ∙ fields-at Newest l at (numberAt 4 l (at + 1 + 1 + 1 + 1)) (ap (numberAt 4 l) z ∙ turns-newest l at)
+  entry-number Old h e = four-of-entry 0 e ∙ fields-at Old l at 0 (turns-old l at h)
 
 -- Fixed places.
 

@@ -1,12 +1,14 @@
 -- Lists of words and their bytes are inverse, and both loops over them.
-use Prim.Native.Nat.{ℕ, zero, suc, _+_, _*_, _≤_, _<_}
-use mathlib.Core.List.{List, [], _∷_, _++_}
+use Prim.Native.Nat.{ℕ, zero, suc, _+_, _*_, _/_, _%_, _^_, _≤_, _<_}
+use mathlib.Core.List.{List, [], _∷_, _++_, append-assoc, append-nil}
 use mathlib.Core.Path.{_≡_, refl, sym, ap, _∙_}
+use native.Mathlib.Nat.{add-zero}
 use native.Mathlib.Numerals.{add-one}
 use native.Mathlib.Omega.{arith}
+use lib.Pow.{pow-add, pow-mono}
 use lib.ListN.{length, getD, take, drop, set, length-drop}
-use lib.Seq.{getD-drop, length-take-le, take-all}
-use Rattle.image_layout.proofs.Join.{grown-none, grown-one, grown-more, grown-same}
+use lib.Seq.{getD-drop, drop-drop, length-take-le, take-all, take-suc}
+use Rattle.image_layout.proofs.Join.{grown-none, grown-one, grown-more, grown-same, grown-new}
 use Rattle.image_layout.proofs.Parts.{concatBelow-same, concatBelow-read, read-concatBelow, piece-even, pieces-even}
 use Rattle.image_layout.specs.Join.{concatBelow, Grown}
 use Rattle.little_endian.proofs.Numbers.{behind, cut, part, bytes-length, word-back, bytes-back}
@@ -55,26 +57,107 @@ pub bytes-none : {l : List ℕ} (at from : ℕ) (words : List ℕ) → Grown l l
 unfolding bytesOf
 bytes-none {l = l} at from words = grown-same (at + 4 * 0) (omega arith) (grown-none l at)
 
--- one word more
-pub bytes-more : {l r m : List ℕ} (at from j w : ℕ) (words : List ℕ) → Grown l r at (at + 4 * j) (bytesOf j (drop from words)) → w ≡ getD words (from + j) 0
-    → Grown r m (at + 4 * j) (at + 4 * j + 4) (numberBytes 4 w) → Grown l m at (at + 4 * (j + 1)) (bytesOf (j + 1) (drop from words))
-unfolding bytesOf
-bytes-more at from j w words g e h =
-    let f : w ≡ getD (drop from words) j 0 = e ∙ sym (getD-drop from words j 0) in
-    let one : Grown _ _ (at + 4 * j) (at + 4 * j + 4) (numberBytes 4 (getD (drop from words) j 0)) = rw f at h in
-    rw (add-one j) (grown-same {p = at + 4 * j + 4} (at + 4 * suc j) (omega arith) (grown-more g one))
-
 pub words-none : {l : List ℕ} (from : ℕ) (bytes : List ℕ) → Grown l l from (from + 0) (wordsOf 0 bytes)
 unfolding wordsOf
 words-none {l = l} from bytes = grown-same (from + 0) (omega arith) (grown-none l from)
 
-pub words-more : {l r : List ℕ} (from j at w : ℕ) (bytes : List ℕ) → Grown l r from (from + j) (wordsOf j (drop at bytes)) → w ≡ numberAt 4 bytes (at + 4 * j)
-    → from + j < length r → Grown l (set r (from + j) w) from (from + (j + 1)) (wordsOf (j + 1) (drop at bytes))
+-- the bytes of a number, from the first on
+pub number-none : (l : List ℕ) (at n w : ℕ) → Grown l l at (at + 0) (take 0 (numberBytes n w))
+number-none l at n w = grown-same (at + 0) (omega arith) (grown-none l at)
+
+-- a number's bytes, one after the other: what is left of them is the bytes of what is left of the number
+pub number-next : (l : List ℕ) (j m rest : ℕ) → drop j l ≡ numberBytes (suc m) rest → (getD l j 0 ≡ rest % 256) × (drop (j + 1) l ≡ numberBytes m (rest / 256))
+unfolding numberBytes
+number-next l j m rest e =
+    let z : j ≡ j + 0 = omega arith in
+    (ap (λ k. getD l k 0) z ∙ (sym (getD-drop j l 0 0) ∙ ap (λ x. getD x 0 0) e), sym (drop-drop 1 j l) ∙ ap (drop 1) e)
+
+-- a number's bytes from the highest on: one more, and how large the number can be
+pub number-more : (l : List ℕ) (p q j : ℕ) → p + 1 ≡ q → getD l p 0 + 256 * numberAt j l q ≡ numberAt (j + 1) l p
+unfolding numberAt
+number-more l p q j e = sym (ap (λ n. numberAt n l p) (add-one j) ∙ ap (λ z. getD l p 0 + 256 * numberAt j l z) e)
+
+pub number-few : (x m j : ℕ) → x < 256 → m < 2 ^ (8 * j) → x + 256 * m < 2 ^ (8 * (j + 1))
+number-few x m j h k =
+    let z : 8 * (j + 1) ≡ 8 + 8 * j = omega arith in
+    let e : 2 ^ (8 * (j + 1)) ≡ 256 * 2 ^ (8 * j) = ap (λ n. 2 ^ n) z ∙ pow-add 2 8 (8 * j) in
+    omega (arith, e)
+
+pub seven-few : (m j : ℕ) → m < 2 ^ (8 * j) → j < 8 → m < 2 ^ 56
+seven-few m j h k = let z : 2 ^ (8 * j) ≤ 2 ^ 56 = pow-mono {i = 8 * j} {j = 56} (omega arith) in omega (arith, z)
+
+-- four words stored one after the other
+pub four-put : {l r s t u : List ℕ} (at from : ℕ) (words : List ℕ) → Grown l r at (at + 4) (numberBytes 4 (getD words from 0))
+    → Grown r s (at + 4) (at + 4 + 4) (numberBytes 4 (getD words (from + 1) 0)) → Grown s t (at + 8) (at + 8 + 4) (numberBytes 4 (getD words (from + 2) 0))
+    → Grown t u (at + 12) (at + 12 + 4) (numberBytes 4 (getD words (from + 3) 0)) → Grown l u at (at + 16) (bytesOf 4 (drop from words))
+unfolding bytesOf
+four-put at from words f g h k =
+    let first : getD words from 0 ≡ getD (drop from words) 0 0 = ap (λ z. getD words z 0) (let z : from ≡ from + 0 = omega arith in z) ∙ sym (getD-drop from words 0 0) in
+    let e : (n : ℕ) → getD words (from + n) 0 ≡ getD (drop from words) n 0 = λ n. sym (getD-drop from words n 0) in
+    let two = grown-same {p = at + 4 + 4} (at + 8) (omega arith) (grown-more f g) in
+    let three = grown-same {p = at + 8 + 4} (at + 12) (omega arith) (grown-more two h) in
+    grown-new (λ i. ((numberBytes 4 (first i) ++ numberBytes 4 (e 1 i)) ++ numberBytes 4 (e 2 i)) ++ numberBytes 4 (e 3 i))
+    (grown-same {p = at + 12 + 4} (at + 16) (omega arith) (grown-more three k))
+
+-- four words taken
+pub four-taken : (l : List ℕ) (from at a b c d : ℕ) (bytes : List ℕ) → from + 4 ≤ length l
+    → a ≡ numberAt 4 bytes at → b ≡ numberAt 4 bytes (at + 4) → c ≡ numberAt 4 bytes (at + 8) → d ≡ numberAt 4 bytes (at + 12)
+    → Grown l (set (set (set (set l from a) (from + 1) b) (from + 2) c) (from + 3) d) from (from + 4) (wordsOf 4 (drop at bytes))
 unfolding wordsOf
-words-more {r = r} from j at w bytes g e h =
-    let f : w ≡ numberAt 4 (drop at bytes) (4 * j) = e ∙ sym (behind 4 bytes at (4 * j)) in
-    let one : Grown r (set r (from + j) w) (from + j) (from + j + 1) (numberAt 4 (drop at bytes) (4 * j) ∷ []) = rw (← f) (grown-one r (from + j) w h) in
-    rw (add-one j) (grown-same {p = from + j + 1} (from + suc j) (omega arith) (grown-more g one))
+four-taken l from at a b c d bytes room e f g h =
+    let first : a ≡ numberAt 4 (drop at bytes) 0 = e ∙ (ap (numberAt 4 bytes) (let z : at ≡ at + 0 = omega arith in z) ∙ sym (behind 4 bytes at 0)) in
+    let k : (n : ℕ) → numberAt 4 bytes (at + n) ≡ numberAt 4 (drop at bytes) n = λ n. sym (behind 4 bytes at n) in
+    grown-new (λ i. first i ∷ (f ∙ k 4) i ∷ (g ∙ k 8) i ∷ (h ∙ k 12) i ∷ []) (grown-four l from a b c d room)
+
+-- one more of the bytes of another list
+pub grown-part : {l r : List ℕ} (at k : ℕ) (m : List ℕ) → Grown l r at (at + k) (take k m) → k < length m → at + k < length r
+    → Grown l (set r (at + k) (getD m k 0)) at (at + (k + 1)) (take (k + 1) m)
+grown-part {r = r} at k m g h t = rw (add-one k, take-suc m k 0 h) (grown-same (at + suc k) (omega arith) (grown-more g (grown-one r (at + k) (getD m k 0) t)))
+
+-- the same of the bytes from a place of another list, into the beginning of one
+pub grown-copied : {l r : List ℕ} (p k : ℕ) (m : List ℕ) → Grown l r 0 k (take k (drop p m)) → p + k < length m → k < length r
+    → Grown l (set r k (getD m (p + k) 0)) 0 (k + 1) (take (k + 1) (drop p m))
+grown-copied {r = r} p k m g h t =
+    let e : k < length (drop p m) = rw (length-drop p m) (omega arith) in
+    rw (add-one k, take-suc (drop p m) k 0 e, getD-drop p m k 0) (grown-same (suc k) (omega arith) (grown-more g (grown-one r k (getD m (p + k) 0) t)))
+
+-- so many, and then more
+bytes-add : (a b : ℕ) (words : List ℕ) → bytesOf (a + b) words ≡ bytesOf a words ++ bytesOf b (drop a words)
+unfolding bytesOf
+bytes-add a zero words = ap (λ n. bytesOf n words) (add-zero a) ∙ sym (append-nil (bytesOf a words))
+bytes-add a (suc b) words =
+    let e : a + suc b ≡ suc (a + b) = omega arith in
+    ap (λ n. bytesOf n words) e
+    ∙ ((λ i. bytes-add a b words i ++ numberBytes 4 (sym (getD-drop a words b 0) i))
+    ∙ append-assoc (bytesOf a words) (bytesOf b (drop a words)) (numberBytes 4 (getD (drop a words) b 0)))
+
+words-add : (a b : ℕ) (l : List ℕ) → wordsOf (a + b) l ≡ wordsOf a l ++ wordsOf b (drop (4 * a) l)
+unfolding wordsOf
+words-add a zero l = ap (λ n. wordsOf n l) (add-zero a) ∙ sym (append-nil (wordsOf a l))
+words-add a (suc b) l =
+    let e : a + suc b ≡ suc (a + b) = omega arith in
+    let f : 4 * (a + b) ≡ 4 * a + 4 * b = omega arith in
+    ap (λ n. wordsOf n l) e
+    ∙ ((λ i. words-add a b l i ++ (ap (numberAt 4 l) f ∙ sym (behind 4 l (4 * a) (4 * b))) i ∷ [])
+    ∙ append-assoc (wordsOf a l) (wordsOf b (drop (4 * a) l)) (numberAt 4 (drop (4 * a) l) (4 * b) ∷ []))
+
+-- four more
+pub bytes-fours : {l r m : List ℕ} (at from j : ℕ) (words : List ℕ) → Grown l r at (at + 16 * j) (bytesOf (4 * j) (drop from words))
+    → Grown r m (at + 16 * j) (at + 16 * j + 16) (bytesOf 4 (drop (from + 4 * j) words)) → Grown l m at (at + 16 * (j + 1)) (bytesOf (4 * (j + 1)) (drop from words))
+bytes-fours at from j words g h =
+    let e : 4 * j + 4 ≡ 4 * (j + 1) = omega arith in
+    let x : bytesOf (4 * j) (drop from words) ++ bytesOf 4 (drop (from + 4 * j) words) ≡ bytesOf (4 * (j + 1)) (drop from words) =
+    ap (λ z. bytesOf (4 * j) (drop from words) ++ bytesOf 4 z) (sym (drop-drop (4 * j) from words)) ∙ (sym (bytes-add (4 * j) 4 (drop from words)) ∙ ap (λ n. bytesOf n (drop from words)) e) in
+    grown-same {p = at + 16 * j + 16} (at + 16 * (j + 1)) (omega arith) (grown-new x (grown-more g h))
+
+pub words-fours : {l r m : List ℕ} (from at j : ℕ) (bytes : List ℕ) → Grown l r from (from + 4 * j) (wordsOf (4 * j) (drop at bytes))
+    → Grown r m (from + 4 * j) (from + 4 * j + 4) (wordsOf 4 (drop (at + 16 * j) bytes)) → Grown l m from (from + 4 * (j + 1)) (wordsOf (4 * (j + 1)) (drop at bytes))
+words-fours from at j bytes g h =
+    let e : 4 * j + 4 ≡ 4 * (j + 1) = omega arith in
+    let f : at + 16 * j ≡ at + 4 * (4 * j) = omega arith in
+    let x : wordsOf (4 * j) (drop at bytes) ++ wordsOf 4 (drop (at + 16 * j) bytes) ≡ wordsOf (4 * (j + 1)) (drop at bytes) =
+    ap (λ z. wordsOf (4 * j) (drop at bytes) ++ wordsOf 4 z) (ap (λ n. drop n bytes) f ∙ sym (drop-drop (4 * (4 * j)) at bytes)) ∙ (sym (words-add (4 * j) 4 (drop at bytes)) ∙ ap (λ n. wordsOf n (drop at bytes)) e) in
+    grown-same {p = from + 4 * j + 4} (from + 4 * (j + 1)) (omega arith) (grown-new x (grown-more g h))
 
 -- the words of more bytes than they have
 pub words-cut : (n : ℕ) (l : List ℕ) → wordsOf n (take (4 * n) l) ≡ wordsOf n l

@@ -1,5 +1,5 @@
 -- A machine in a saved image, and the machine that an image holds (document 01, "Saved image").
-use Prim.Native.Nat.{ℕ, _*_, _/_, _%_, _≤_}
+use Prim.Native.Nat.{ℕ, _*_, _/_, _%_, _≤_, _<_}
 use mathlib.Core.Bool.{Bool, true, false, _&&_}
 use mathlib.Core.List.{List, [], _∷_, _++_}
 use mathlib.Core.Path.{_≡_}
@@ -12,8 +12,9 @@ use Rattle.thread_entry.specs.Entry.{zeroThread}
 use Rattle.machine.specs.Machine.{withTurns}
 use Rattle.machine.specs.WellFormed.{wellFormed}
 use Rattle.image_layout.specs.Join.{concatBelow, allBelow}
-use Rattle.image_layout.specs.Layout.{ofBlocks, rowOf, laidOut, bodyIn}
+use Rattle.image_layout.specs.Layout.{ofBlocks, rowOf, kindAt, Numbered, laidOut, bodyIn}
 use Rattle.little_endian.specs.Numbers.{numberAt, numberBytes, bytesOf, wordsOf}
+use Rattle.image_layout.specs.declared.layout.RecordRow.{RecordRow}
 use Rattle.image.specs.Fields.{fields, fieldsOf, threadOf}
 use Rattle.image.specs.Types.{Kind, Hd, Ti, Sr, Vr, Mm, Form, Newest, Old, Shape, Machine, Thread, ThreadFields}
 
@@ -34,6 +35,13 @@ Suits a Ti registers memory = Unit {0}
 Suits a Sr registers memory = Lengths a registers memory
 Suits a Vr registers memory = Lengths a registers memory
 Suits a Mm registers memory = Lengths a registers memory
+
+abbrev pub SuitsUpTo : ℕ → Shape → List ℕ → List ℕ → Type 0
+SuitsUpTo n a registers memory = (q : ℕ) → q < n → Suits a (kindAt q) registers memory
+
+-- the place numbers of every record of a row are bytes
+abbrev pub AllNumbered : RecordRow → Type 0
+AllNumbered r = (i : ℕ) → i < r .count → Numbered (r .places) i
 
 -- Writing.
 

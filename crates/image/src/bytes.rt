@@ -16,13 +16,40 @@ pub fn put_word(word: u32, buffer: &mut [u8], at: usize)
     buffer[at + 3] = (word / 16777216 % 256) as u8;
 }
 
-// n words stored from a place on.
+// The n lowest bytes of a number stored from a place on, the lowest first.
+pub fn put_number(number: u32, n: usize, buffer: &mut [u8], at: usize)
+    requires { ⌜ at + n ≤ length (now buffer) ⌝ }
+    ensures { λ _. ⌜ Grown (now (buffer .entry)) (now (buffer .exit)) at (at + n) (numberBytes n number) ⌝ }
+{
+    let mut rest = number;
+    for j in 0..n {
+        buffer[at + j] = (rest % 256) as u8;
+        rest = rest / 256;
+    }
+}
+
+// Four words stored from a place on: all are read before one is stored, so that they move as one.
+fn put_four(registers: &[u32], from: usize, buffer: &mut [u8], at: usize)
+    requires { ⌜ (from + 4 ≤ length (now registers)) × (at + 16 ≤ length (now buffer)) ⌝ }
+    ensures { λ _. ⌜ Grown (now (buffer .entry)) (now (buffer .exit)) at (at + 16) (bytesOf 4 (drop from (now (registers .entry)))) ⌝ }
+{
+    let w0 = registers[from];
+    let w1 = registers[from + 1];
+    let w2 = registers[from + 2];
+    let w3 = registers[from + 3];
+    put_word(w0, buffer, at);
+    put_word(w1, buffer, at + 4);
+    put_word(w2, buffer, at + 8);
+    put_word(w3, buffer, at + 12);
+}
+
+// n times four words stored from a place on.
 pub fn put_words(registers: &[u32], from: usize, n: usize, buffer: &mut [u8], at: usize)
-    requires { ⌜ (from + n ≤ length (now registers)) × (at + 4 * n ≤ length (now buffer)) ⌝ }
-    ensures { λ _. ⌜ Grown (now (buffer .entry)) (now (buffer .exit)) at (at + 4 * n) (bytesOf n (drop from (now (registers .entry)))) ⌝ }
+    requires { ⌜ (from + 4 * n ≤ length (now registers)) × (at + 16 * n ≤ length (now buffer)) ⌝ }
+    ensures { λ _. ⌜ Grown (now (buffer .entry)) (now (buffer .exit)) at (at + 16 * n) (bytesOf (4 * n) (drop from (now (registers .entry)))) ⌝ }
 {
     for j in 0..n {
-        put_word(registers[from + j], buffer, at + 4 * j);
+        put_four(registers, from + 4 * j, buffer, at + 16 * j);
     }
 }
 
@@ -46,45 +73,72 @@ pub fn word_at(image: &[u8], at: usize) -> u32
     b0 + 256 * b1 + 65536 * b2 + 16777216 * b3
 }
 
-// n words taken from a place of an image, and stored from a place on.
+// The number that n bytes from a place on stand for, at most eight: the highest byte is read first.
+pub fn number_at(image: &[u8], at: usize, n: usize) -> u64
+    requires { ⌜ (n ≤ 8) × (at + n ≤ length (now image)) ⌝ }
+    ensures { λ r. ⌜ r ≡ numberAt n (now (image .entry)) at ⌝ }
+{
+    let mut number: u64 = 0;
+    for j in 0..n {
+        let lowest = byte(image, at + (n - 1 - j));
+        number = lowest as u64 + 256 * number;
+    }
+    number
+}
+
+// Four words taken from a place of an image, and stored from a place on: all are read before one is stored.
+fn take_four(image: &[u8], at: usize, registers: &mut [u32], from: usize)
+    requires { ⌜ (at + 16 ≤ length (now image)) × (from + 4 ≤ length (now registers)) ⌝ }
+    ensures { λ _. ⌜ Grown (now (registers .entry)) (now (registers .exit)) from (from + 4) (wordsOf 4 (drop at (now (image .entry)))) ⌝ }
+{
+    let w0 = word_at(image, at);
+    let w1 = word_at(image, at + 4);
+    let w2 = word_at(image, at + 8);
+    let w3 = word_at(image, at + 12);
+    registers[from] = w0;
+    registers[from + 1] = w1;
+    registers[from + 2] = w2;
+    registers[from + 3] = w3;
+}
+
+// n times four words taken from a place of an image, and stored from a place on.
 pub fn take_words(image: &[u8], at: usize, n: usize, registers: &mut [u32], from: usize)
-    requires { ⌜ (at + 4 * n ≤ length (now image)) × (from + n ≤ length (now registers)) ⌝ }
-    ensures { λ _. ⌜ Grown (now (registers .entry)) (now (registers .exit)) from (from + n) (wordsOf n (drop at (now (image .entry)))) ⌝ }
+    requires { ⌜ (at + 16 * n ≤ length (now image)) × (from + 4 * n ≤ length (now registers)) ⌝ }
+    ensures { λ _. ⌜ Grown (now (registers .entry)) (now (registers .exit)) from (from + 4 * n) (wordsOf (4 * n) (drop at (now (image .entry)))) ⌝ }
 {
     for j in 0..n {
-        registers[from + j] = word_at(image, at + 4 * j);
+        take_four(image, at + 16 * j, registers, from + 4 * j);
     }
 }
 
-// Eight bytes taken from a place, and stored from a place on: all are read before one is stored, so that they move as one.
-fn copy_eight(source: &[u8], from: usize, target: &mut [u8], at: usize)
-    requires { ⌜ (from + 8 ≤ length (now source)) × (at + 8 ≤ length (now target)) ⌝ }
-    ensures { λ _. ⌜ Grown (now (target .entry)) (now (target .exit)) at (at + 8) (take 8 (drop from (now (source .entry)))) ⌝ }
+// Sixteen bytes from a place on. They have a copy of their own, so that they move as one.
+fn sixteen_at(source: &[u8], from: usize) -> [u8; 16]
+    requires { ⌜ from + 16 ≤ length (now source) ⌝ }
+    ensures { λ r. ⌜ r ≡ take 16 (drop from (now (source .entry))) ⌝ }
 {
-    let b0 = source[from];
-    let b1 = source[from + 1];
-    let b2 = source[from + 2];
-    let b3 = source[from + 3];
-    let b4 = source[from + 4];
-    let b5 = source[from + 5];
-    let b6 = source[from + 6];
-    let b7 = source[from + 7];
-    target[at] = b0;
-    target[at + 1] = b1;
-    target[at + 2] = b2;
-    target[at + 3] = b3;
-    target[at + 4] = b4;
-    target[at + 5] = b5;
-    target[at + 6] = b6;
-    target[at + 7] = b7;
+    let mut bytes = [0u8; 16];
+    for j in 0..16usize {
+        bytes[j] = source[from + j];
+    }
+    bytes
 }
 
-// n times eight bytes taken from a place, and stored from a place on.
-pub fn copy_eights(source: &[u8], from: usize, n: usize, target: &mut [u8], at: usize)
-    requires { ⌜ (from + 8 * n ≤ length (now source)) × (at + 8 * n ≤ length (now target)) ⌝ }
-    ensures { λ _. ⌜ Grown (now (target .entry)) (now (target .exit)) at (at + 8 * n) (take (8 * n) (drop from (now (source .entry)))) ⌝ }
+// Sixteen bytes stored from a place on.
+fn put_sixteen(bytes: [u8; 16], target: &mut [u8], at: usize)
+    requires { ⌜ at + 16 ≤ length (now target) ⌝ }
+    ensures { λ _. ⌜ Grown (now (target .entry)) (now (target .exit)) at (at + 16) bytes ⌝ }
+{
+    for j in 0..16usize {
+        target[at + j] = bytes[j];
+    }
+}
+
+// n times sixteen bytes taken from a place, and stored from a place on.
+pub fn copy_sixteens(source: &[u8], from: usize, n: usize, target: &mut [u8], at: usize)
+    requires { ⌜ (from + 16 * n ≤ length (now source)) × (at + 16 * n ≤ length (now target)) ⌝ }
+    ensures { λ _. ⌜ Grown (now (target .entry)) (now (target .exit)) at (at + 16 * n) (take (16 * n) (drop from (now (source .entry)))) ⌝ }
 {
     for k in 0..n {
-        copy_eight(source, from + 8 * k, target, at + 8 * k);
+        put_sixteen(sixteen_at(source, from + 16 * k), target, at + 16 * k);
     }
 }

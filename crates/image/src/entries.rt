@@ -4,11 +4,10 @@ ghost use mathlib.Core.Path.{_≡_};
 ghost use lib.ListN.{length, take, drop};
 ghost use Rattle.image_layout.specs.Join.{allBelow};
 ghost use Rattle.image_layout.specs.Layout.{recordKinds, threadRow, startOf};
-ghost use Rattle.little_endian.specs.Numbers.{numberAt};
 ghost use Rattle.image.specs.Answer.{entryAnswered};
 ghost use Rattle.image.specs.Fields.{threadOf};
 ghost use Rattle.image.specs.Image.{fieldsIn, isEntry, entryOr, entryIn, threadsIn, machineIn, recordIn};
-use crate::bytes::word_at;
+use crate::bytes::number_at;
 use crate::fields::EntryReading;
 use crate::fields::ThreadFields;
 use crate::fields::read_entry;
@@ -18,6 +17,7 @@ use image_layout::Shape;
 use image_layout::first_body;
 use image_layout::record_size;
 use image_layout::row_of;
+use image_layout::thread_row;
 use machine::Machine;
 use thread_entry::Status;
 use thread_entry::Thread;
@@ -54,29 +54,23 @@ fn entry_or_zero(entry: EntryReading) -> Thread
     }
 }
 
-// The count of turns of the entry at a place: 0 in the old form, which has none.
-fn turns_at(form: Form, image: &[u8], at: usize) -> u32
-    requires { ⌜ at + threadRow form .size ≤ length (now image) ⌝ }
-    ensures { λ r. ⌜ r ≡ numberAt 4 (take (threadRow form .size) (drop at (now (image .entry)))) 4 ⌝ }
-{
-    match form {
-        Form::Newest => word_at(image, at + 4),
-        Form::Old => 0,
-    }
-}
-
-// The entry whose numbers stand at a place.
+// The entry whose numbers stand at a place: one number, from which they are taken. The old form has no byte of the count of turns, which
+// then is 0.
 fn entry_at(form: Form, image: &[u8], at: usize) -> EntryReading
     requires { ⌜ at + threadRow form .size ≤ length (now image) ⌝ }
     ensures { λ r. ⌜ entryAnswered r ≡ threadOf (fieldsIn (take (threadRow form .size) (drop at (now (image .entry))))) ⌝ }
 {
-    let turns = turns_at(form, image, at);
+    let row = thread_row(form);
+    let first = number_at(image, at, row.size as usize);
+    let second = first / 256;
+    let third = second / 256;
+    let fourth = third / 256;
     read_entry(ThreadFields {
-        status: image[at],
-        reason: image[at + 1],
-        id: image[at + 2],
-        count: image[at + 3],
-        turns,
+        status: (first % 256) as u8,
+        reason: (second % 256) as u8,
+        id: (third % 256) as u8,
+        count: (fourth % 256) as u8,
+        turns: (fourth / 256) as u32,
     })
 }
 

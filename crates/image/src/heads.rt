@@ -1,9 +1,12 @@
 // What records open with: their marks and place numbers, written and checked.
 ghost use Prim.Native.Nat.{_+_, _≤_};
 ghost use mathlib.Core.Path.{_≡_};
+ghost use mathlib.Core.List.{[], _∷_};
 ghost use lib.ListN.{length};
 ghost use Rattle.image_layout.specs.Join.{Grown};
-ghost use Rattle.image_layout.specs.Layout.{placesOf, placesLength, Numbered, headLength, headOf, extentOf, startOf, headsOf, headsUpTo};
+ghost use Rattle.image_layout.specs.Layout.{placesOf, placesLength, Numbered, headLength, headOf, extentOf, startOf, standsAt, headsOf, headsUpTo};
+ghost use Rattle.image.specs.Image.{AllNumbered};
+use crate::bytes::word_at;
 use image_layout::Places;
 use image_layout::RecordRow;
 use image_layout::Shape;
@@ -48,16 +51,53 @@ pub fn put_head(row: RecordRow, i: usize, buffer: &mut [u8], at: usize) -> usize
     put_places(places, i, buffer, at + 2)
 }
 
+// Whether four bytes stand at a place: they are compared as one word.
+fn four_stand(first: u8, second: u8, third: u8, fourth: u8, image: &[u8], at: usize) -> bool
+    requires { ⌜ at + 4 ≤ length (now image) ⌝ }
+    ensures { λ r. ⌜ r ≡ standsAt (first ∷ second ∷ third ∷ fourth ∷ []) (now (image .entry)) at ⌝ }
+{
+    let word = first as u32 + 256 * second as u32 + 65536 * third as u32 + 16777216 * fourth as u32;
+    word_at(image, at) == word
+}
+
+// Whether record i of a row opens so at a place.
+fn opens_so(row: RecordRow, i: usize, image: &[u8], at: usize) -> bool
+    requires { ⌜ Numbered (row .places) i × (at + headLength (row .places) ≤ length (now image)) ⌝ }
+    ensures { λ r. ⌜ r ≡ standsAt (headOf row i) (now (image .entry)) at ⌝ }
+{
+    let places = row.places;
+    match places {
+        Places::Nothing => head_stands(row, i, image, at),
+        Places::ByThread => head_stands(row, i, image, at),
+        Places::ByRegister => four_stand(
+            row.first,
+            row.second,
+            (i / 64) as u8,
+            (i % 64) as u8,
+            image,
+            at,
+        ),
+        Places::ByBlock => four_stand(
+            row.first,
+            row.second,
+            (i % 256) as u8,
+            (i / 256) as u8,
+            image,
+            at,
+        ),
+    }
+}
+
 // Whether every record of a row that begins at a place opens so.
 fn heads_stand(row: RecordRow, image: &[u8], at: usize) -> bool
-    requires { ⌜ at + extentOf row ≤ length (now image) ⌝ }
+    requires { ⌜ AllNumbered row × (at + extentOf row ≤ length (now image)) ⌝ }
     ensures { λ r. ⌜ r ≡ headsOf row (now (image .entry)) at ⌝ }
 {
     let count = row.count;
     let size = record_size(row);
     let mut p = at;
     for i in 0..count {
-        let stands = head_stands(row, i, image, p);
+        let stands = opens_so(row, i, image, p);
         if !stands {
             return false;
         }

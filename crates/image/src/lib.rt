@@ -18,4 +18,5 @@ pub use outcome::WriteAnswer;
 pub use reading::read;
 pub use verdicts::Judgement;
 pub use writing::write;
+pub use writing::write_as;
 pub use writing::write_old;

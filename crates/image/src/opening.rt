@@ -6,9 +6,8 @@ use crate::entries::record_in;
 use crate::heads::kinds_stand;
 use crate::verdicts::Judgement;
 use crate::verdicts::judge_content;
-use crate::writing::put_section;
+use crate::writing::put_kinds;
 use image_layout::Form;
-use image_layout::Kind;
 use image_layout::RECORD_KINDS;
 use image_layout::Shape;
 use machine::Machine;
@@ -27,8 +26,7 @@ fn put_opening(machine: Machine, buffer: &mut [u8])
         form: Form::Newest,
         blocks: 0,
     };
-    let next = put_section(shape, Kind::Hd, &registers, &memory, machine, buffer, 0);
-    put_section(shape, Kind::Ti, &registers, &memory, machine, buffer, next);
+    put_kinds(shape, RECORD_KINDS, &registers, &memory, machine, buffer);
 }
 
 // A machine record is written, whether or not it is well formed.

@@ -8,7 +8,7 @@ ghost use Rattle.image_layout.specs.Layout.{rowOf, kinds, startOf};
 ghost use Rattle.image.specs.Calls.{restored, readBy, read};
 ghost use Rattle.image.specs.Image.{Lengths, wordsIn, registersIn, memoryIn};
 ghost use Rattle.image.specs.Refusal.{recordsNumber};
-use crate::bytes::copy_eights;
+use crate::bytes::copy_sixteens;
 use crate::bytes::take_words;
 use crate::outcome::Read;
 use crate::outcome::ReadAnswer;
@@ -23,10 +23,10 @@ use image_layout::form_of;
 use image_layout::record_size;
 use image_layout::row_of;
 
-// The words of every record of a kind, n in each, stored from a place on.
+// The words of every record of a kind, n times four in each, stored from a place on.
 fn take_bodies(shape: Shape, kind: Kind, n: usize, image: &[u8], registers: &mut [u32], from: usize)
-    requires { ⌜ (startOf shape kinds ≤ length (now image)) × (rowOf shape kind .size ≡ 4 * n) × (from + n * rowOf shape kind .count ≤ length (now registers)) ⌝ }
-    ensures { λ _. ⌜ Grown (now (registers .entry)) (now (registers .exit)) from (from + n * rowOf shape kind .count) (wordsIn shape (now (image .entry)) kind n) ⌝ }
+    requires { ⌜ (startOf shape kinds ≤ length (now image)) × (rowOf shape kind .size ≡ 16 * n) × (from + 4 * n * rowOf shape kind .count ≤ length (now registers)) ⌝ }
+    ensures { λ _. ⌜ Grown (now (registers .entry)) (now (registers .exit)) from (from + 4 * n * rowOf shape kind .count) (wordsIn shape (now (image .entry)) kind (4 * n)) ⌝ }
 {
     let row = row_of(shape, kind);
     let count = row.count;
@@ -36,7 +36,7 @@ fn take_bodies(shape: Shape, kind: Kind, n: usize, image: &[u8], registers: &mut
     for i in 0..count {
         take_words(image, at, n, registers, next);
         at += size;
-        next += n;
+        next += 4 * n;
     }
 }
 
@@ -45,8 +45,8 @@ fn take_registers(shape: Shape, image: &[u8], registers: &mut [u32])
     requires { ⌜ (startOf shape kinds ≤ length (now image)) × (length (now registers) ≡ registerWords) ⌝ }
     ensures { λ _. ⌜ now (registers .exit) ≡ registersIn shape (now (image .entry)) ⌝ }
 {
-    take_bodies(shape, Kind::Sr, 64, image, registers, 0);
-    take_bodies(shape, Kind::Vr, 16, image, registers, 512);
+    take_bodies(shape, Kind::Sr, 16, image, registers, 0);
+    take_bodies(shape, Kind::Vr, 4, image, registers, 512);
 }
 
 // The memory.
@@ -60,7 +60,7 @@ fn take_memory(shape: Shape, image: &[u8], memory: &mut [u8])
     let mut at = first_body(shape, Kind::Mm);
     let mut next: usize = 0;
     for i in 0..count {
-        copy_eights(image, at, 8, memory, next);
+        copy_sixteens(image, at, 4, memory, next);
         at += size;
         next += 64;
     }

@@ -4,11 +4,11 @@ ghost use mathlib.Core.Path.{_≡_};
 ghost use lib.ListN.{length};
 ghost use Rattle.machine.specs.State.{state};
 ghost use Rattle.image_layout.specs.Join.{Grown};
-ghost use Rattle.image_layout.specs.Layout.{threadRow, rowOf, kinds, recordSize, extentOf, recordOf, sectionOf, laidOut, startOf};
+ghost use Rattle.image_layout.specs.Layout.{threadRow, rowOf, recordSize, extentOf, recordOf, sectionOf, laidUpTo, startOf};
 ghost use Rattle.image.specs.Calls.{written, writeAs, write, writeOld};
-ghost use Rattle.image.specs.Image.{Lengths, Suits, statusBytes, fieldBytes, bodyOf};
-use crate::bytes::copy_eights;
-use crate::bytes::put_word;
+ghost use Rattle.image.specs.Image.{Suits, SuitsUpTo, statusBytes, fieldBytes, bodyOf};
+use crate::bytes::copy_sixteens;
+use crate::bytes::put_number;
 use crate::bytes::put_words;
 use crate::fields::ThreadFields;
 use crate::fields::fields_of;
@@ -22,9 +22,11 @@ use image_layout::Form;
 use image_layout::KINDS;
 use image_layout::Kind;
 use image_layout::Shape;
+use image_layout::count_at;
 use image_layout::fixed_part;
 use image_layout::kind_at;
 use image_layout::row_of;
+use image_layout::thread_row;
 use machine::Machine;
 
 // The numbers of an entry's status stored from a place on.
@@ -44,14 +46,11 @@ fn put_fields(form: Form, fields: ThreadFields, buffer: &mut [u8], at: usize) ->
     ensures { λ r. ⌜ Grown (now (buffer .entry)) (now (buffer .exit)) at r (fieldBytes form fields) ⌝ }
 {
     let turns = fields.turns;
+    let row = thread_row(form);
+    let size = row.size as usize;
     put_status(fields, buffer, at);
-    match form {
-        Form::Newest => {
-            put_word(turns, buffer, at + 4);
-            at + 8
-        }
-        Form::Old => at + 4,
-    }
+    put_number(turns, size - 4, buffer, at + 4);
+    at + size
 }
 
 // What stands behind the place numbers of record i, stored from a place on; the next place.
@@ -80,15 +79,15 @@ fn put_body(
             put_fields(form, fields_of(entry), buffer, at)
         }
         Kind::Sr => {
-            put_words(registers, 64 * i, 64, buffer, at);
+            put_words(registers, 64 * i, 16, buffer, at);
             at + 256
         }
         Kind::Vr => {
-            put_words(registers, 512 + 16 * i, 16, buffer, at);
+            put_words(registers, 512 + 16 * i, 4, buffer, at);
             at + 64
         }
         Kind::Mm => {
-            copy_eights(memory, 64 * i, 8, buffer, at);
+            copy_sixteens(memory, 64 * i, 4, buffer, at);
             at + 64
         }
     }
@@ -113,21 +112,20 @@ fn put_record(
     put_body(shape, kind, registers, memory, machine, i, buffer, next)
 }
 
-// Every record of a kind stored from a place on; the next place.
-pub fn put_section(
+// Every record of a kind, of which there are so many, stored from a place on; the next place.
+fn put_section(
     shape: Shape,
     kind: Kind,
+    count: usize,
     registers: &[u32],
     memory: &[u8],
     machine: Machine,
     buffer: &mut [u8],
     at: usize,
 ) -> usize
-    requires { ⌜ Suits shape kind (now registers) (now memory) × (at + extentOf (rowOf shape kind) ≤ length (now buffer)) ⌝ }
+    requires { ⌜ Suits shape kind (now registers) (now memory) × (count ≡ rowOf shape kind .count) × (at + extentOf (rowOf shape kind) ≤ length (now buffer)) ⌝ }
     ensures { λ r. ⌜ Grown (now (buffer .entry)) (now (buffer .exit)) at r (sectionOf (rowOf shape kind) (bodyOf (shape .form) (state machine (now (registers .entry)) (now (memory .entry))) kind)) ⌝ }
 {
-    let row = row_of(shape, kind);
-    let count = row.count;
     let mut next = at;
     for i in 0..count {
         next = put_record(shape, kind, registers, memory, machine, i, buffer, next);
@@ -135,16 +133,24 @@ pub fn put_section(
     next
 }
 
-// Every kind's records.
-fn put_image(shape: Shape, registers: &[u32], memory: &[u8], machine: Machine, buffer: &mut [u8])
-    requires { ⌜ Lengths shape (now registers) (now memory) × (startOf shape kinds ≡ length (now buffer)) ⌝ }
-    ensures { λ _. ⌜ now (buffer .exit) ≡ laidOut shape (bodyOf (shape .form) (state machine (now (registers .entry)) (now (memory .entry)))) ⌝ }
+// The records of the first n kinds.
+pub fn put_kinds(
+    shape: Shape,
+    n: usize,
+    registers: &[u32],
+    memory: &[u8],
+    machine: Machine,
+    buffer: &mut [u8],
+)
+    requires { ⌜ SuitsUpTo n shape (now registers) (now memory) × (startOf shape n ≡ length (now buffer)) ⌝ }
+    ensures { λ _. ⌜ now (buffer .exit) ≡ laidUpTo n shape (bodyOf (shape .form) (state machine (now (registers .entry)) (now (memory .entry)))) ⌝ }
 {
     let mut next: usize = 0;
-    for position in 0..KINDS {
+    for position in 0..n {
         next = put_section(
             shape,
             kind_at(position),
+            count_at(shape, position),
             registers,
             memory,
             machine,
@@ -154,8 +160,8 @@ fn put_image(shape: Shape, registers: &[u32], memory: &[u8], machine: Machine, b
     }
 }
 
-// The image of a machine in a form is written into a buffer of exactly its length.
-fn write_as(
+// The image of a machine in a form is written into a buffer of exactly its length; dropping allows the old form to lose counts.
+pub fn write_as(
     form: Form,
     dropping: bool,
     registers: &[u32],
@@ -179,7 +185,7 @@ fn write_as(
                 form,
                 blocks: (memory.len() / 64) as u16,
             };
-            put_image(shape, registers, memory, machine, buffer);
+            put_kinds(shape, KINDS, registers, memory, machine, buffer);
             WriteAnswer::Written
         }
     }

@@ -6,8 +6,8 @@ use mathlib.Core.Logic.{⊎-elim}
 use native.Mathlib.Omega.{arith}
 use native.Mathlib.Numerals.{add-one}
 use native.Mathlib.Nat.{mul-suc, mul-le-mul-left}
-use lib.ListN.{length, getD, take, drop, set, length-append, length-set, length-drop}
-use lib.Seq.{take-suc-set, take-all, take-suc, getD-drop, take-add, drop-drop}
+use lib.ListN.{length, take, drop, set, length-append, length-set}
+use lib.Seq.{take-suc-set, take-all, take-add, drop-drop}
 use Rattle.image_layout.specs.Join.{concatBelow, total, Grown}
 use Rattle.image_layout.proofs.Tests.{at-or-below}
 
@@ -81,36 +81,11 @@ room-for s j n f g h t b = omega (arith, g .size, g .next, length-even j s f (λ
 pub grown-new : {A : Type 0} {l r x y : List A} {at p : ℕ} → x ≡ y → Grown l r at p x → Grown l r at p y
 grown-new e g = rw e at g
 
--- one more of the bytes from a place of another list
-pub grown-taken : {l r : List ℕ} (at p k : ℕ) (m : List ℕ) → Grown l r at (at + k) (take k (drop p m)) → p + k < length m → at + k < length r
-    → Grown l (set r (at + k) (getD m (p + k) 0)) at (at + (k + 1)) (take (k + 1) (drop p m))
-grown-taken {r = r} at p k m g h t =
-    let e : k < length (drop p m) = rw (length-drop p m) (omega arith) in
-    rw (add-one k, take-suc (drop p m) k 0 e, getD-drop p m k 0) (grown-same (at + suc k) (omega arith) (grown-more g (grown-one r (at + k) (getD m (p + k) 0) t)))
-
--- eight of them
-pub grown-eight : (l : List ℕ) (at p : ℕ) (m : List ℕ) → p + 8 ≤ length m → at + 8 ≤ length l
-    → Grown l
-    (set (set (set (set (set (set (set (set l at (getD m p 0)) (at + 1) (getD m (p + 1) 0)) (at + 2) (getD m (p + 2) 0)) (at + 3) (getD m (p + 3) 0)) (at + 4) (getD m (p + 4) 0)) (at + 5) (getD m (p + 5) 0)) (at + 6) (getD m (p + 6) 0)) (at + 7) (getD m (p + 7) 0))
-    at (at + 8) (take 8 (drop p m))
-grown-eight l at p m h t =
-    let y : at + 0 ≡ at = omega arith in
-    let z : p + 0 ≡ p = omega arith in
-    let g0 : Grown l l at (at + 0) [] = grown-same (at + 0) (sym y) (grown-none l at) in
-    let g1 = rw (y, z) at (grown-taken at p 0 m g0 (omega arith) (omega arith)) in
-    let g2 = grown-taken at p 1 m g1 (omega arith) (omega (arith, g1 .size)) in
-    let g3 = grown-taken at p 2 m g2 (omega arith) (omega (arith, g2 .size)) in
-    let g4 = grown-taken at p 3 m g3 (omega arith) (omega (arith, g3 .size)) in
-    let g5 = grown-taken at p 4 m g4 (omega arith) (omega (arith, g4 .size)) in
-    let g6 = grown-taken at p 5 m g5 (omega arith) (omega (arith, g5 .size)) in
-    let g7 = grown-taken at p 6 m g6 (omega arith) (omega (arith, g6 .size)) in
-    grown-taken at p 7 m g7 (omega arith) (omega (arith, g7 .size))
-
--- and eight more
-pub grown-eights : {l r s : List ℕ} (at p k : ℕ) (m : List ℕ) → Grown l r at (at + 8 * k) (take (8 * k) (drop p m)) → Grown r s (at + 8 * k) (at + 8 * k + 8) (take 8 (drop (p + 8 * k) m))
-    → Grown l s at (at + 8 * (k + 1)) (take (8 * (k + 1)) (drop p m))
-grown-eights at p k m g h =
-    let e : 8 * (k + 1) ≡ 8 * k + 8 = omega arith in
-    let x : take (8 * k) (drop p m) ++ take 8 (drop (p + 8 * k) m) ≡ take (8 * (k + 1)) (drop p m) =
-    ap (λ z. take (8 * k) (drop p m) ++ take 8 z) (sym (drop-drop (8 * k) p m)) ∙ (sym (take-add (8 * k) 8 (drop p m)) ∙ ap (λ n. take n (drop p m)) (sym e)) in
-    grown-same {p = at + 8 * k + 8} (at + 8 * (k + 1)) (omega arith) (grown-new x (grown-more g h))
+-- sixteen more
+pub grown-sixteens : {l r s : List ℕ} (at p k : ℕ) (m : List ℕ) → Grown l r at (at + 16 * k) (take (16 * k) (drop p m)) → Grown r s (at + 16 * k) (at + 16 * k + 16) (take 16 (drop (p + 16 * k) m))
+    → Grown l s at (at + 16 * (k + 1)) (take (16 * (k + 1)) (drop p m))
+grown-sixteens at p k m g h =
+    let e : 16 * (k + 1) ≡ 16 * k + 16 = omega arith in
+    let x : take (16 * k) (drop p m) ++ take 16 (drop (p + 16 * k) m) ≡ take (16 * (k + 1)) (drop p m) =
+    ap (λ z. take (16 * k) (drop p m) ++ take 16 z) (sym (drop-drop (16 * k) p m)) ∙ (sym (take-add (16 * k) 16 (drop p m)) ∙ ap (λ n. take n (drop p m)) (sym e)) in
+    grown-same {p = at + 16 * k + 16} (at + 16 * (k + 1)) (omega arith) (grown-new x (grown-more g h))

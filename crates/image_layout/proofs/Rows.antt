@@ -1,11 +1,11 @@
 -- What holds of every row of the table: a case for each kind, once; and the lengths that follow from it.
 use Prim.Native.Nat.{ℕ, zero, suc, _+_, _*_, _%_, _≤_, _<_}
-use mathlib.Core.List.{List}
+use mathlib.Core.List.{List, [], _∷_}
 use mathlib.Core.Path.{_≡_, refl, ap}
 use native.Mathlib.Nat.{mul-suc}
 use native.Mathlib.Numerals.{add-one}
 use native.Mathlib.Omega.{arith}
-use lib.ListN.{length, length-append}
+use lib.ListN.{length, getD, length-append}
 use borrow.Author.Tests.{eq-eqb, ne-eqb}
 use Rattle.answer.specs.Refusal.{blockRecord, imageLength}
 use Rattle.image_layout.specs.Join.{total, concatBelow}
@@ -89,6 +89,16 @@ past-kinds (suc (suc (suc zero))) h = absurd (omega arith)
 past-kinds (suc (suc (suc (suc zero)))) h = absurd (omega arith)
 past-kinds (suc (suc (suc (suc (suc q))))) h = refl
 
+-- the count of the kind at a position, from a list of the counts in order
+module _ (s : Shape) (hd ti sr vr mm : ℕ) (e : hd ≡ rowOf s Hd .count) (f : ti ≡ rowOf s Ti .count) (g : sr ≡ rowOf s Sr .count) (h : vr ≡ rowOf s Vr .count) (k : mm ≡ rowOf s Mm .count) where
+  pub count-listed : (q : ℕ) → q < kinds → getD (hd ∷ ti ∷ sr ∷ vr ∷ mm ∷ []) q 0 ≡ rowOf s (kindAt q) .count
+  count-listed zero l = e
+  count-listed (suc zero) l = f
+  count-listed (suc (suc zero)) l = g
+  count-listed (suc (suc (suc zero))) l = h
+  count-listed (suc (suc (suc (suc zero)))) l = k
+  count-listed (suc (suc (suc (suc (suc q))))) l = absurd (omega arith)
+
 -- HD and TI are the first two
 pub hd-order : orderOf Hd ≡ 0
 unfolding orderOf positionIn
@@ -162,11 +172,16 @@ kind-room s k = kind-room-in s k kinds (order-few k)
 abbrev pub sectionAt : Shape → (Kind → ℕ → List ℕ) → ℕ → List ℕ
 sectionAt s body q = sectionOf (rowOf s (kindAt q)) (body (kindAt q))
 
+pub sections-up-to : (s : Shape) (body : Kind → ℕ → List ℕ) (n : ℕ)
+    → ((q : ℕ) → q < n → (i : ℕ) → i < rowOf s (kindAt q) .count → length (body (kindAt q) i) ≡ rowOf s (kindAt q) .size)
+    → (q : ℕ) → q ≤ n → length (concatBelow q (sectionAt s body)) ≡ startOf s q
+unfolding startOf
+sections-up-to s body n even q h =
+    length-concatBelow q (sectionAt s body) (λ p. extentOf (rowOf s (kindAt p))) (λ p l. section-length (rowOf s (kindAt p)) (body (kindAt p)) (even p (omega arith)))
+
 module _ (s : Shape) (body : Kind → ℕ → List ℕ) (even : (k : Kind) (i : ℕ) → i < rowOf s k .count → length (body k i) ≡ rowOf s k .size) where
   pub sections-length : (q : ℕ) → length (concatBelow q (sectionAt s body)) ≡ startOf s q
-  unfolding startOf
-  sections-length q =
-      length-concatBelow q (sectionAt s body) (λ p. extentOf (rowOf s (kindAt p))) (λ p _. section-length (rowOf s (kindAt p)) (body (kindAt p)) (even (kindAt p)))
+  sections-length q = sections-up-to s body q (λ p _. even (kindAt p)) q (omega arith)
 
   pub laid-length : length (laidOut s body) ≡ startOf s kinds
   unfolding laidOut

@@ -96,7 +96,7 @@ pub fn form_of(size: usize) -> Form
 }
 
 // The row of a thread's entry.
-fn thread_row(form: Form) -> RecordRow
+pub fn thread_row(form: Form) -> RecordRow
     ensures { λ r. ⌜ r ≡ threadRow form ⌝ }
 {
     match form {
@@ -131,6 +131,23 @@ fn row_with(first: u8, second: u8, places: Places, count: usize, size: u16) -> R
         count,
         size,
     }
+}
+
+// How many records the kind at a position has. They are looked up in an array by the position, and not in the table by the kind: there the
+// compiler sees which are eight, and unrolls the loops over them.
+pub fn count_at(shape: Shape, position: usize) -> usize
+    ensures { λ r. ⌜ r ≡ rowOf shape (kindAt position) .count ⌝ }
+{
+    let hd = row_of(shape, Kind::Hd);
+    let ti = row_of(shape, Kind::Ti);
+    let sr = row_of(shape, Kind::Sr);
+    let vr = row_of(shape, Kind::Vr);
+    let mm = row_of(shape, Kind::Mm);
+    let counts = [hd.count, ti.count, sr.count, vr.count, mm.count];
+    if position < KINDS {
+        return counts[position];
+    }
+    counts[0]
 }
 
 // The bytes of a mark and place numbers.

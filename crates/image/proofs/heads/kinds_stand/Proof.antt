@@ -7,6 +7,7 @@ use Rattle.image_layout.specs.Join.{allBelow}
 use Rattle.image_layout.specs.Layout.{rowOf, kindAt, extentOf, startOf, headsOf}
 use Rattle.image_layout.proofs.Rows.{start-none, start-next, start-room}
 use Rattle.image_layout.proofs.Tests.{all-none, all-more, all-less, all-stop}
+use Rattle.image.proofs.Bodies.{numbered}
 use native.Mathlib.Omega.{arith}
 use borrow.Author.Needs.{needs}
 use Rattle.image.proofs.heads.kinds_stand.Statement.{statement}
@@ -23,7 +24,7 @@ heads-stand-requires c κs =
     let a = c .before .before .before .before .before .args in
     let l = c .before .before .before .loop in
     let e = c .row-of .ensures ∙ ap (rowOf (a .shape)) (c .before .kind-at .ensures) in
-    rw e (omega (arith, l .inv .1, start-room (a .shape) (l .position) (a .n) (c .before .before .loop-test .taken), c .before .before .before .before .before .pre))
+    rw e (numbered (a .shape) (omega arith) (kindAt (l .position)), omega (arith, l .inv .1, start-room (a .shape) (l .position) (a .n) (c .before .before .loop-test .taken), c .before .before .before .before .before .pre))
 
 returns : tie.Need-returns Inv-loop μ-loop
 returns c =

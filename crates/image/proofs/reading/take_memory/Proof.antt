@@ -21,8 +21,8 @@ Inv-loop image memory₀ count size at₀ next₀ i₀ memory at next i = (i ≤
 abbrev μ-loop : tie.MeasureT-loop
 μ-loop image memory₀ count size at₀ next₀ i₀ memory at next i = count - i
 
-copy-eights-requires : tie.Need-copy-eights-requires Inv-loop μ-loop
-copy-eights-requires c κs =
+copy-sixteens-requires : tie.Need-copy-sixteens-requires Inv-loop μ-loop
+copy-sixteens-requires c κs =
     let a = c .before .before .before .before .before .before .before .before .args in
     let place = fixed-place (a .shape) Mm (c .before .before .before .first-body .result) (c .before .before .before .before .record-size .result) (c .before .before .before .first-body .ensures) (c .before .before .before .before .record-size .ensures ∙ ap recordSize (c .before .before .before .before .before .row-of .ensures)) in
     let e : c .before .before .before .before .before .row-of .result .count ≡ rowOf (a .shape) Mm .count = ap (λ r. r .count) (c .before .before .before .before .before .row-of .ensures) in
@@ -59,7 +59,7 @@ loop-again c =
       omega (arith, c .before .before .before .before .loop-test .taken),
       omega (arith, l .inv .1, mul-suc size (l .i), ap (λ n. size * n) (add-one (l .i))),
       omega (arith, l .inv .2),
-      grown-join (l .i) (λ k. take 64 (drop (at + size * k) image)) (l .inv .3) (grown-new x (c .before .before .copy-eights .ensures)),
+      grown-join (l .i) (λ k. take 64 (drop (at + size * k) image)) (l .inv .3) (grown-new x (c .before .before .copy-sixteens .ensures)),
     )
 
 returns : tie.Need-returns Inv-loop μ-loop
@@ -84,7 +84,7 @@ take-memory-spec =
     (λ c κs. search needs)
     (λ c κs. search needs)
     (λ c. (omega arith, omega arith, omega arith, grown-start _ 0 _))
-    copy-eights-requires
+    copy-sixteens-requires
     add-at
     add-next
     (λ c. omega (arith, c .before .before .before .before .loop-test .taken))

@@ -40,11 +40,11 @@ add-put-words c = let h = rw (c .enum-told4 .given .1) at (c .before .before .be
 put-words-requires-2 : tie.Need-put-words-requires-2
 put-words-requires-2 c κs = let h = rw (c .before .enum-told4 .given .1) at (c .before .before .before .before .before .before .pre .1) in let g = rw (c .before .enum-told4 .given .1) at (c .before .before .before .before .before .before .pre .2) in let w = rw (c .before .enum-told4 .given .1) at (c .before .before .before .before .before .before .pre .0) in (omega (arith, h, w .room), omega (arith, g))
 
-mul-copy-eights : tie.Need-mul-copy-eights
-mul-copy-eights c = let h = rw (c .enum-told5 .given .1) at (c .before .before .before .before .before .pre .1) in let w = rw (c .enum-told5 .given .1) at (c .before .before .before .before .before .pre .0) in omega (arith, h, w .few)
+mul-copy-sixteens : tie.Need-mul-copy-sixteens
+mul-copy-sixteens c = let h = rw (c .enum-told5 .given .1) at (c .before .before .before .before .before .pre .1) in let w = rw (c .enum-told5 .given .1) at (c .before .before .before .before .before .pre .0) in omega (arith, h, w .few)
 
-copy-eights-requires : tie.Need-copy-eights-requires
-copy-eights-requires c κs = let h = rw (c .before .enum-told5 .given .1) at (c .before .before .before .before .before .before .pre .1) in let g = rw (c .before .enum-told5 .given .1) at (c .before .before .before .before .before .before .pre .2) in let w = rw (c .before .enum-told5 .given .1) at (c .before .before .before .before .before .before .pre .0) in (omega (arith, h, w .whole), omega (arith, g))
+copy-sixteens-requires : tie.Need-copy-sixteens-requires
+copy-sixteens-requires c κs = let h = rw (c .before .enum-told5 .given .1) at (c .before .before .before .before .before .before .pre .1) in let g = rw (c .before .enum-told5 .given .1) at (c .before .before .before .before .before .before .pre .2) in let w = rw (c .before .enum-told5 .given .1) at (c .before .before .before .before .before .before .pre .0) in (omega (arith, h, w .whole), omega (arith, g))
 
 returns : tie.Need-returns
 returns c = let h = rw (c .enum-told .given .1) at (c .before .before .before .before .before .pre .2) in rw (c .enum-told .given .1) (grown-two (c .before .before .before .before .before .args .buffer .now) (c .before .before .before .before .before .args .at) _ _ h)
@@ -88,8 +88,8 @@ put-body-spec =
     put-words-requires-2
     (λ c. search needs)
     (λ c. search needs)
-    mul-copy-eights
-    copy-eights-requires
+    mul-copy-sixteens
+    copy-sixteens-requires
     (λ c. search needs)
     (λ c. search needs)
     returns
@@ -100,4 +100,4 @@ put-body-spec =
     (λ c. search needs)
     returns-4
     (λ c. search needs)
-    (λ c. rw (c .before .before .before .before .enum-told5 .given .1) (c .before .before .copy-eights .ensures)))
+    (λ c. rw (c .before .before .before .before .enum-told5 .given .1) (c .before .before .copy-sixteens .ensures)))

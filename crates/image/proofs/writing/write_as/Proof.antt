@@ -8,12 +8,13 @@ use lib.ListN.{length}
 use Rattle.answer.specs.Answer.{given}
 use Rattle.answer.specs.Refusal.{numberOf, refusedOr, sizesNumber}
 use Rattle.machine.specs.State.{State, state}
-use Rattle.image_layout.specs.Layout.{fixedOf}
+use Rattle.image_layout.specs.Layout.{fixedOf, kindAt, laidOut}
 use Rattle.image.specs.Calls.{writing, writeRefusal}
 use Rattle.image.specs.Image.{image}
 use Rattle.image.specs.Refusal.{recordNumber}
 use Rattle.image.specs.Types.{Form}
 use Rattle.image.proofs.Refusals.{sized, long, lengths, memory-blocks, write-number, write-by, write-good}
+use Rattle.image.proofs.Bodies.{suits}
 use native.Mathlib.Omega.{arith}
 use borrow.Author.Needs.{needs}
 use Rattle.image.proofs.writing.write_as.Statement.{statement}
@@ -43,13 +44,13 @@ cast-t19 c =
     let k = sized (a .form) (length (a .registers .now)) (length (a .memory .now)) (length (a .buffer .now)) (e .0) in
     omega (arith, memory-blocks (length (a .memory .now)) (k .memory))
 
-put-image-requires : tie.Need-put-image-requires
-put-image-requires c κs =
+put-kinds-requires : tie.Need-put-kinds-requires
+put-kinds-requires c κs =
     let a = c .before .before .before .before .before .before .before .before .before .before .args in
     let s : State = state (a .machine) (a .registers .now) (a .memory .now) in
     let e = write-good (a .form) (a .dropping) s (a .buffer .now) (sym (number (c .before .before .before)) ∙ ap numberOf (c .before .enum-told .given .1)) in
     let k = sized (a .form) (length (a .registers .now)) (length (a .memory .now)) (length (a .buffer .now)) (e .0) in
-    (lengths (a .form) (a .registers .now) (a .memory .now) (length (a .buffer .now)) k, long (a .form) (length (a .registers .now)) (length (a .memory .now)) (length (a .buffer .now)) k)
+    (λ q l. suits _ (a .registers .now) (a .memory .now) (lengths (a .form) (a .registers .now) (a .memory .now) (length (a .buffer .now)) k) (kindAt q), long (a .form) (length (a .registers .now)) (length (a .memory .now)) (length (a .buffer .now)) k)
 
 returns : tie.Need-returns
 returns c =
@@ -59,11 +60,11 @@ returns c =
     write-by (a .form) (a .dropping) s (a .buffer .now) (some (v .0 .0)) (sym (number (c .before .before .before)) ∙ ap numberOf (v .1))
 
 returns-2 : tie.Need-returns-2
-unfolding image
+unfolding image laidOut
 returns-2 c =
     let a = c .before .before .before .before .before .before .before .before .before .before .before .before .before .args in
     let s : State = state (a .machine) (a .registers .now) (a .memory .now) in
-    ap (writing (given tt)) (c .before .before .put-image .ensures)
+    ap (writing (given tt)) (c .before .before .put-kinds .ensures)
     ∙ write-by (a .form) (a .dropping) s (a .buffer .now) none (sym (number (c .before .before .before .before .before .before)) ∙ ap numberOf (c .before .before .before .before .enum-told .given .1))
 
 pub write-as-spec : {M : Type 1} → statement M
@@ -77,7 +78,7 @@ write-as-spec =
     (λ c. search needs)
     (λ c. search needs)
     cast-t19
-    put-image-requires
+    put-kinds-requires
     returns
     (λ c. search needs)
     returns-2)
