@@ -1,5 +1,5 @@
 -- The thread chosen is the nearest that runs, and the lowest set bit of the mask that goes round.
-use Prim.Native.Nat.{ℕ, _+_, _-_, _*_, _/_, _%_, _^_, _<_, _≤_}
+use Prim.Native.Nat.{ℕ, suc, _+_, _-_, _*_, _/_, _%_, _^_, _<_, _≤_}
 use mathlib.Core.Bool.{Bool, true, false, cond}
 use mathlib.Core.Option.{Option, none, some}
 use mathlib.Core.Path.{_≡_, refl, sym, ap, subst, _∙_}
@@ -13,7 +13,7 @@ use Rattle.machine.specs.Scheduler.{runs, after, distances, chosenAt, ch
 use Rattle.machine.specs.Search.{first, maskOf}
 use Rattle.machine.specs.Types.{Machine, Chosen, NoneRunning, Turn}
 use Rattle.machine.proofs.Loops.{from}
-use Rattle.machine.proofs.Nearest.{Nowhere, Found, found, lowest, first-at, first-nowhere, maskOf-lt, maskOf-nowhere, nowhere-maskOf, maskOf-shift, first-lowest, maskOf-same}
+use Rattle.machine.proofs.Nearest.{Nowhere, Found, found, lowest, first-at, first-nowhere, maskOf-lt, maskOf-odd, maskOf-nowhere, nowhere-maskOf, maskOf-shift, first-lowest, maskOf-same}
 
 -- the thread at a distance runs
 abbrev pub runsAfter : Machine → ℕ → Bool
@@ -121,6 +121,32 @@ chooses-none m = (there, back)
 
     back : ((t : ℕ) → t < 8 → runs m t ≡ false) → choice m ≡ NoneRunning
     back h = choice-at m (first-nowhere (runsAfter m) 1 8 (none-after m (λ t a b. h t (omega arith))))
+
+-- a thread runs whose bit is set
+pub bit-runs : (m : Machine) (t : ℕ) → t < 8 → mask m / 2 ^ t % 2 ≡ 1 → runs m t ≡ true
+unfolding from
+bit-runs m t l e =
+    let a : 8 ≡ t + suc (7 - t) = omega arith in
+    let f : mask m / 2 ^ t ≡ maskOf (runs m) (from (0 + t) (suc (7 - t))) =
+    ap (λ n. maskOf (runs m) (from 0 n) / 2 ^ t) a ∙ maskOf-shift (runs m) t 0 (suc (7 - t)) in
+    let g : 0 + t ≡ t = omega arith in
+    go (runs m t) (sym (ap (λ k. cond (runs m k) 1 0) g) ∙ sym (maskOf-odd (runs m) (0 + t) (7 - t)) ∙ sym (ap (λ n. n % 2) f) ∙ e)
+  where
+    go : (b : Bool) → _≡_ {A = ℕ} (cond b 1 0) 1 → b ≡ true
+    go true e = refl
+    go false e = absurd (omega arith)
+
+-- the thread after "last" runs: it is chosen
+pub following : (m : Machine) (t : ℕ) → t ≡ (m .last % 8 + 1) % 8 → mask m / 2 ^ t % 2 ≡ 1 → choice m ≡ Chosen t 1
+following m t e one =
+    chooses m t 1 .1
+    (record {
+      low = omega arith;
+      high = omega arith;
+      place = omega arith;
+      running = bit-runs m t (omega arith) one;
+      nearest = λ j a b. absurd (omega arith);
+    })
 
 pub turned : Turned
 unfolding choose

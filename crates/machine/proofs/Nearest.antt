@@ -95,7 +95,7 @@ module _ (p : ℕ → Bool) where
       go true = omega arith
       go false = omega arith
 
-  maskOf-odd : (k n : ℕ) → maskOf p (from k (suc n)) % 2 ≡ cond (p k) 1 0
+  pub maskOf-odd : (k n : ℕ) → maskOf p (from k (suc n)) % 2 ≡ cond (p k) 1 0
   unfolding maskOf from
   maskOf-odd k n = go (p k)
     where

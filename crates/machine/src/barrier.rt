@@ -46,13 +46,15 @@ impl Machine {
         n
     }
 
-    // Every thread that waits at a barrier is running.
+    // Every thread that waits at a barrier is running. Asked first is, as above, whether an entry waits at all.
     fn release(mut self, id: u8) -> Machine
         ensures { λ r. ⌜ r ≡ release self id ⌝ }
     {
         for t in 0..8 {
             let status = self.status_at(t);
-            self = self.with_status(t, released(status, id));
+            if is_waiting(status) {
+                self = self.with_status(t, released(status, id));
+            }
         }
         self
     }

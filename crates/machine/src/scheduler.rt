@@ -45,11 +45,23 @@ impl Machine {
                 machine: self,
             };
         }
+        // Where several threads are running it is mostly the next one, which a processor foretells; the search takes longer.
+        let last = (self.last % 8) as usize;
+        let following = (last + 1) % 8;
+        if (mask >> following) % 2 == 1 {
+            self.last = following as u8;
+            return Turn {
+                choice: Choice::Chosen {
+                    thread: following,
+                    distance: 1,
+                },
+                machine: self,
+            };
+        }
         // The mask stands here twice, so that its bits go round: bit k is that of the thread at distance k + 1.
-        let last = self.last % 8;
         let ahead = (mask * 257) >> (last + 1);
         let distance = u32::trailing_zeros(ahead) as usize + 1;
-        let thread = (last as usize + distance) % 8;
+        let thread = (last + distance) % 8;
         self.last = thread as u8;
         Turn {
             choice: Choice::Chosen { thread, distance },
