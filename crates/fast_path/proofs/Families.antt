@@ -11,7 +11,7 @@ use Rattle.alu.specs.Unary.{unary}
 use Rattle.isa.proofs.Both.{and-both}
 use Rattle.word_layout.specs.Layout.{bits, signed}
 use Rattle.isa.specs.Number.{numberMovei}
-use lib.Dec.{ltb}
+use lib.Dec.{leb, ltb}
 use Rattle.isa.specs.Rule.{flagsUnary, flagsClass, destination, allowsR, allowsI, allowsJ, allowsM}
 use Rattle.isa.specs.Test.{isIn}
 use Rattle.isa.specs.Table.{rowR, rowMovei, rowJ, rowM}
@@ -26,7 +26,7 @@ use Rattle.memory.specs.Attempt.{Attempt, done, fault}
 use Rattle.memory.specs.Operation.{load, store, StoreResult, storeResult, changed, scalarPlace, bytesStored}
 use Rattle.little_endian.specs.Numbers.{withNumber}
 use Rattle.memory.specs.declared.outcome.Access.the-variants.{Done}
-use Rattle.fast_path.proofs.Words.{free-register, plain-R, plain-I, plain-Movei, plain-J, plain-M}
+use Rattle.fast_path.proofs.Words.{free-register, flagged-R, flagged-I, plain-Movei, plain-J, plain-M}
 use Rattle.fast_path.specs.Action.{HasOpcode, Acts, ActsOn, ActsAnywhere}
 use Rattle.fast_path.specs.Types.{
   Write,
@@ -68,12 +68,14 @@ plain-flags IntToFloat = refl
 plain-flags FloatToInt = refl
 
 -- an operation whose opcode the five bits of I hold has the flags of its class
-listed-flags : (t : Bool) (xs : List ℕ) (free : Bool) → t ≡ true → (isIn 0 xs && free) ≡ true → (isIn 0 (cond t xs []) && free) ≡ true
-listed-flags true xs free e h = h
-listed-flags false xs free e h = absurd (false≢true e)
+listed-flags : (t : Bool) (flags : ℕ) (xs : List ℕ) (free : Bool) → t ≡ true → (isIn flags xs && free) ≡ true → (isIn flags (cond t xs []) && free) ≡ true
+listed-flags true flags xs free e h = h
+listed-flags false flags xs free e h = absurd (false≢true e)
 
-has-I : (op : Operation) (d : ℕ) → rowR op .opcode < 2 ^ 5 → (isIn 0 (flagsClass op) && destination false d) ≡ true → allowsI op 0 d ≡ true
-has-I op d h e = listed-flags (ltb (rowR op .opcode) (2 ^ 5)) (flagsClass op) (destination false d) (lt-ltb (rowR op .opcode) (2 ^ 5) h) e
+pub has-I : (op : Operation) (flags d : ℕ) → rowR op .opcode < 2 ^ 5 → (isIn flags (flagsClass op) && destination (leb 0b10 flags) d) ≡ true →
+    allowsI op flags d ≡ true
+has-I op flags d h e =
+    listed-flags (ltb (rowR op .opcode) (2 ^ 5)) flags (flagsClass op) (destination (leb 0b10 flags) d) (lt-ltb (rowR op .opcode) (2 ^ 5) h) e
 
 module _ (t : ℕ) (regs : List ℕ) (w : ℕ) where
   abbrev pub operandA : ℕ
@@ -97,12 +99,12 @@ module _ (t : ℕ) (regs : List ℕ) (w : ℕ) where
   operates-R : (op : Operation) → HasOpcode w 0x00 64 (rowR op .opcode) → w % 64 ≡ 0 → allowsR op 0 (bits w 23 18) (bits w 11 6) ≡ true →
       Operates op operandB
   unfolding executeWord operateR
-  operates-R op h low allowed memory pc enabled words turns = rw (plain-R w op h low allowed)
+  operates-R op h low allowed memory pc enabled words turns = rw (flagged-R w op 0 h (omega arith) low allowed)
 
   operates-I : (op : Operation) → HasOpcode w 0x40 32 (rowR op .opcode) → w % 8 ≡ 0 → allowsI op 0 (bits w 23 18) ≡ true →
       Operates op immediate
   unfolding executeWord operateI
-  operates-I op h low allowed memory pc enabled words turns = rw (plain-I w op h low allowed)
+  operates-I op h low allowed memory pc enabled words turns = rw (flagged-I w op 0 h (omega arith) low allowed)
 
   writes-binary : (op : BinaryOp) (y : ℕ) → Operates (Binary op) y → ActsAnywhere t w regs (Write (binary op operandA y))
   unfolding binaryInto
@@ -137,12 +139,12 @@ module _ (t : ℕ) (regs : List ℕ) (w : ℕ) where
   pub binary-I : (op : BinaryOp) → HasOpcode w 0x40 32 (rowR (Binary op) .opcode) → w % 8 ≡ 0 →
       ActsAnywhere t w regs (Write (binary op operandA immediate))
   binary-I op h low =
-      writes-binary op immediate (operates-I (Binary op) h low (has-I (Binary op) (bits w 23 18) (h .listed) (free-register (bits w 23 18) (h .free))))
+      writes-binary op immediate (operates-I (Binary op) h low (has-I (Binary op) 0 (bits w 23 18) (h .listed) (free-register (bits w 23 18) (h .free))))
 
   pub compare-I : (op : CompareOp) → HasOpcode w 0x40 32 (rowR (Compare op) .opcode) → w % 8 ≡ 0 →
       ActsAnywhere t w regs (Write (cond (compare op operandA immediate) 1 0))
   compare-I op h low =
-      writes-compare op immediate (operates-I (Compare op) h low (has-I (Compare op) (bits w 23 18) (h .listed) (free-register (bits w 23 18) (h .free))))
+      writes-compare op immediate (operates-I (Compare op) h low (has-I (Compare op) 0 (bits w 23 18) (h .listed) (free-register (bits w 23 18) (h .free))))
 
   pub moves : (op : MoveiOp) → HasOpcode w 0x60 8 (rowMovei op .opcode) → w % 4 ≡ 0 →
       ActsAnywhere t w regs (Write (replaced op (scalar regs t (bits w 23 18)) (numberMovei op (bits w 17 2))))
@@ -183,7 +185,7 @@ module _ (t : ℕ) (regs : List ℕ) (w : ℕ) where
   unfolding storeFrom
   stores op h low memory stored e pc enabled words turns = sym (accesses (Store op) h low refl memory pc enabled words turns ∙ rw (← e))
 
-trap-changes : (place : Attempt ℕ) (m : List ℕ) (f : ℕ → List ℕ) (reason : ℕ) (stored : List ℕ) →
+pub trap-changes : (place : Attempt ℕ) (m : List ℕ) (f : ℕ → List ℕ) (reason : ℕ) (stored : List ℕ) →
     record { answer = fault reason; memory = stored } ≡ changed place m f → stored ≡ m
 trap-changes (done a) m f reason stored e =
     let answer : _≡_ {A = Attempt (Unit {0})} (fault reason) (done tt) = ap (λ (o : StoreResult). o .answer) e in

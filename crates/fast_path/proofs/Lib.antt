@@ -1,4 +1,6 @@
 -- Laws that several proofs cite.
 pub mod Words
 pub mod Families
+pub mod Vectors
+pub mod Compares
 pub mod Trying

@@ -1,13 +1,11 @@
 -- What trying a word comes to.
-use Prim.Native.Nat.{ℕ, _/_, _<_}
-use mathlib.Core.Bool.{Bool, true, false, cond}
+use Prim.Native.Nat.{ℕ, _/_}
+use mathlib.Core.Bool.{Bool, true, false}
 use mathlib.Core.List.{List}
 use mathlib.Core.Option.{Option, none, some}
 use mathlib.Core.Path.{_≡_, refl, sym, ap, subst, _∙_}
 use native.Mathlib.Omega.{arith}
 use lib.ListN.{length, getD}
-use Rattle.execution.proofs.Fitting.{fitting}
-use Rattle.machine.specs.State.{State}
 use Rattle.execution.specs.Effect.{Step, step, beside}
 use Rattle.execution.specs.Issue.{fits, perform, performSetsStatus, issue, issueSetsStatus}
 use Rattle.execution.specs.Jump.{inProgram}
@@ -31,19 +29,6 @@ pub tries-action : (c : Context) (w d : ℕ) → d ≡ bits w 23 18 → (regs me
 tries-action c w d e regs memory a h r after k =
     tries-step c w regs memory (stepOf c (bits w 23 18) regs a) h r after
     (subst (λ (x : ℕ). Goes (stepOf c x regs a) regs r after) e k)
-
--- where there is no such thread, a count makes no difference
-pub any-turns : (p : List ℕ) (s : State) (t a b : ℕ) → (t < 8 → a ≡ b)
-    → (issue p s t a ≡ issue p s t b) × (issueSetsStatus p s t a ≡ issueSetsStatus p s t b)
-unfolding issue issueSetsStatus
-any-turns p s t a b same = go (fits (length p) (length (s .registers)) t) refl
-  where
-    go : (f : Bool) → fits (length p) (length (s .registers)) t ≡ f
-        → (cond f (perform p s t a) s ≡ cond f (perform p s t b) s) × (cond f (performSetsStatus p s t a) false ≡ cond f (performSetsStatus p s t b) false)
-    go true e =
-        let k = same (fitting (length p) (length (s .registers)) t e .2) in
-        (ap (perform p s t) k, ap (performSetsStatus p s t) k)
-    go false e = (refl, refl)
 
 -- trying the word at a thread's s63 is its issue
 pub tries-issue : (p : List ℕ) (t : ℕ) (regs memory : List ℕ) → fits (length p) (length regs) t ≡ true → (pc : ℕ) →

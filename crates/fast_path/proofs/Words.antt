@@ -1,5 +1,5 @@
--- What a word of scalars alone is read as, by its top byte and its low bits: one law a format.
-use Prim.Native.Nat.{ℕ, _%_, _^_, _<_}
+-- What a word is read as, by its top byte and its low bits: one law a format.
+use Prim.Native.Nat.{ℕ, _*_, _%_, _^_, _<_}
 use mathlib.Core.Bool.{true, not}
 use mathlib.Core.Path.{_≡_, refl, _∙_}
 use native.Mathlib.Omega.{arith}
@@ -23,31 +23,31 @@ pub free-register : (d : ℕ) → d < programCounterRegister → not (eqb d noDe
 free-register d h = rw (ne-eqb d noDestination (λ e. omega arith))
 
 module _ (w : ℕ) where
-  pub plain-R : (op : Operation) → HasOpcode w 0x00 64 (rowR op .opcode) → w % 64 ≡ 0 → allowsR op 0 (bits w 23 18) (bits w 11 6) ≡ true →
-      read w ≡ given (R op 0 (bits w 23 18) (bits w 17 12) (bits w 11 6))
+  pub flagged-R : (op : Operation) (flags : ℕ) → HasOpcode w 0x00 64 (rowR op .opcode) → flags < 8 → w % 64 ≡ 2 * flags →
+      allowsR op flags (bits w 23 18) (bits w 11 6) ≡ true → read w ≡ given (R op flags (bits w 23 18) (bits w 17 12) (bits w 11 6))
   unfolding read readR asR listed
-  plain-R op h low allowed =
+  flagged-R op flags h few low allowed =
       let byte = h .byte in
       let small = h .listed in
       let format : bits w 31 30 ≡ 0b00 = omega arith in
       let opcode : bits w 29 24 ≡ rowR op .opcode = omega arith in
       let bit5 : bits w 5 5 ≡ 0 = omega arith in
       let l : bits w 4 4 ≡ 0 = omega arith in
-      let flags : bits w 3 1 ≡ 0 = omega arith in
+      let those : bits w 3 1 ≡ flags = omega arith in
       let bit0 : bits w 0 0 ≡ 0 = omega arith in
-      is-R reads w format ∙ rw (opcode, finds-R op, l, bit5, flags, bit0) (accept _ _ (refl, (refl, (allowed, tt))))
+      is-R reads w format ∙ rw (opcode, finds-R op, l, bit5, those, bit0) (accept _ _ (refl, (refl, (allowed, tt))))
 
-  pub plain-I : (op : Operation) → HasOpcode w 0x40 32 (rowR op .opcode) → w % 8 ≡ 0 → allowsI op 0 (bits w 23 18) ≡ true →
-      read w ≡ given (I op 0 (bits w 23 18) (bits w 17 12) (signed (2 ^ 8) (bits w 11 3)))
+  pub flagged-I : (op : Operation) (flags : ℕ) → HasOpcode w 0x40 32 (rowR op .opcode) → flags < 4 → w % 8 ≡ 2 * flags →
+      allowsI op flags (bits w 23 18) ≡ true → read w ≡ given (I op flags (bits w 23 18) (bits w 17 12) (signed (2 ^ 8) (bits w 11 3)))
   unfolding read readI asI listed
-  plain-I op h low allowed =
+  flagged-I op flags h few low allowed =
       let byte = h .byte in
       let small = h .listed in
       let format : bits w 31 29 ≡ 0b010 = omega arith in
       let opcode : bits w 28 24 ≡ rowR op .opcode = omega arith in
-      let flags : bits w 2 1 ≡ 0 = omega arith in
+      let those : bits w 2 1 ≡ flags = omega arith in
       let bit0 : bits w 0 0 ≡ 0 = omega arith in
-      is-I reads w format ∙ rw (opcode, finds-R op, flags, bit0) (accept _ _ (refl, (allowed, tt)))
+      is-I reads w format ∙ rw (opcode, finds-R op, those, bit0) (accept _ _ (refl, (allowed, tt)))
 
   pub plain-Movei : (op : MoveiOp) → HasOpcode w 0x60 8 (rowMovei op .opcode) → w % 4 ≡ 0 →
       read w ≡ given (Movei op 0 (bits w 23 18) (numberMovei op (bits w 17 2)))

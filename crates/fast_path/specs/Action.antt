@@ -10,7 +10,7 @@ use Rattle.execution.specs.Jump.{jumpBy}
 use Rattle.execution.specs.Registers.{withScalar}
 use Rattle.word_layout.specs.Layout.{field, firstRegister}
 use Rattle.machine.specs.State.{state, programCounterRegister}
-use Rattle.fast_path.specs.Types.{Action, Write, Next, Jump, Defer, Context, Machine, Stays}
+use Rattle.fast_path.specs.Types.{Action, Write, Next, Jump, LanesR, LanesI, Defer, Context, Machine, Stays}
 
 -- a word's top byte says its format and an opcode of it, and its first register is one that a scalar may be written to
 pub record HasOpcode (w format count opcode : ℕ) : Type 0 where
@@ -23,7 +23,26 @@ abbrev pub stepOf : Context → ℕ → List ℕ → Action → Option Step
 stepOf c d regs (Write x) = some (next c (withScalar regs (c .thread) d x))
 stepOf c d regs Next = some (next c regs)
 stepOf c d regs (Jump offset) = some (jumpBy c regs regs offset)
+stepOf c d regs LanesR = none
+stepOf c d regs LanesI = none
 stepOf c d regs Defer = none
+
+-- whether a word is to be tried as one on vectors
+abbrev pub isLanesR : Action → Bool
+isLanesR (Write x) = false
+isLanesR Next = false
+isLanesR (Jump offset) = false
+isLanesR LanesR = true
+isLanesR LanesI = false
+isLanesR Defer = false
+
+abbrev pub isLanesI : Action → Bool
+isLanesI (Write x) = false
+isLanesI Next = false
+isLanesI (Jump offset) = false
+isLanesI LanesR = false
+isLanesI LanesI = true
+isLanesI Defer = false
 
 -- the rules execute a word as this step, if there is one
 abbrev pub Executes : Context → ℕ → List ℕ → List ℕ → Option Step → Type 0

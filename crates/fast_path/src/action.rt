@@ -7,6 +7,9 @@ pub enum Action {
     Next,
     // The thread jumps, over so many bytes from the word's own address.
     Jump(u32),
+    // Nothing: the word may be an R or an I word on vectors, and is tried as such.
+    LanesR,
+    LanesI,
     // Nothing: the word is left to the slow path.
     Defer,
 }

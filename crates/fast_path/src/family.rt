@@ -1,4 +1,4 @@
-// Families of words on scalars: what a word does, or that it is left to the slow path.
+// Families of words on scalars: what a word does, or that it is tried as one on vectors or left to the slow path.
 ghost use mathlib.Core.Bool.{cond};
 ghost use mathlib.Core.Path.{_≡_};
 ghost use Rattle.execution.specs.Immediate.{replaced};
@@ -23,7 +23,7 @@ pub fn binary_r(regs: &[u32], t: usize, w: u32, op: BinaryOp) -> Action
     ensures { λ r. ⌜ ActsAnywhere t w (now (regs .entry)) r ⌝ }
 {
     if field::flags_r(w) != 0 {
-        return Action::Defer;
+        return Action::LanesR;
     }
     let x = registers::operand_a(regs, t, w);
     let y = registers::operand_b(regs, t, w);
@@ -35,7 +35,7 @@ pub fn binary_i(regs: &[u32], t: usize, w: u32, op: BinaryOp) -> Action
     ensures { λ r. ⌜ ActsAnywhere t w (now (regs .entry)) r ⌝ }
 {
     if field::flags_i(w) != 0 {
-        return Action::Defer;
+        return Action::LanesI;
     }
     let x = registers::operand_a(regs, t, w);
     let y = word_layout::short_signed(w);
@@ -65,7 +65,7 @@ pub fn compare_r(regs: &[u32], t: usize, w: u32, op: CompareOp) -> Action
     ensures { λ r. ⌜ ActsAnywhere t w (now (regs .entry)) r ⌝ }
 {
     if field::flags_r(w) != 0 {
-        return Action::Defer;
+        return Action::LanesR;
     }
     let x = registers::operand_a(regs, t, w);
     let y = registers::operand_b(regs, t, w);
@@ -77,7 +77,7 @@ pub fn compare_i(regs: &[u32], t: usize, w: u32, op: CompareOp) -> Action
     ensures { λ r. ⌜ ActsAnywhere t w (now (regs .entry)) r ⌝ }
 {
     if field::flags_i(w) != 0 {
-        return Action::Defer;
+        return Action::LanesI;
     }
     let x = registers::operand_a(regs, t, w);
     let y = word_layout::short_signed(w);

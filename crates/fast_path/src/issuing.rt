@@ -1,23 +1,19 @@
-// One issue of a thread: by the fast path, or as any other.
+// The word of a thread's issue, tried by the fast path.
 ghost use mathlib.Core.Path.{_≡_};
 ghost use Prim.Native.Nat.{_/_, _^_, _≤_, _<_};
-ghost use lib.ListN.{length, getD};
 ghost use Rattle.answer.specs.Refusal.{programWords};
-ghost use Rattle.execution.specs.Issue.{fits, issue, issueSetsStatus};
+ghost use Rattle.execution.specs.Issue.{fits};
 ghost use Rattle.execution.specs.Jump.{inProgram};
 ghost use Rattle.execution.specs.Registers.{InRegisters};
 ghost use Rattle.isa.specs.Table.{rowM};
-ghost use Rattle.thread_entry.specs.Entry.{manyMore};
-ghost use Rattle.machine.specs.State.{state};
-ghost use Rattle.fast_path.specs.Action.{HasOpcode, GoesBy, TriedStore, TriedWord, TriedIssue};
+ghost use Rattle.fast_path.specs.Action.{HasOpcode, isLanesR, isLanesI, GoesBy, TriedStore, TriedWord, TriedIssue};
 ghost use Rattle.fast_path.specs.Types.{Jump, Store};
 use crate::action::Action;
 use crate::field;
+use crate::lanes;
 use crate::registers;
 use crate::table;
-use execution::Issued;
 use isa::StoreOp;
-use machine::Machine;
 use machine::PROGRAM_COUNTER;
 use memory::Access;
 
@@ -65,6 +61,35 @@ fn act(words: usize, regs: &mut [u32], t: usize, pc: u32, d: usize, action: Acti
             true
         }
         Action::Jump(offset) => jump(words, regs, t, pc, offset),
+        Action::LanesR => false,
+        Action::LanesI => false,
+        Action::Defer => false,
+    }
+}
+
+// Whether the word is to be tried as an R word on vectors, and as an I word on them.
+fn is_lanes_r(action: Action) -> bool
+    ensures { λ r. ⌜ r ≡ isLanesR action ⌝ }
+{
+    match action {
+        Action::Write(_) => false,
+        Action::Next => false,
+        Action::Jump(_) => false,
+        Action::LanesR => true,
+        Action::LanesI => false,
+        Action::Defer => false,
+    }
+}
+
+fn is_lanes_i(action: Action) -> bool
+    ensures { λ r. ⌜ r ≡ isLanesI action ⌝ }
+{
+    match action {
+        Action::Write(_) => false,
+        Action::Next => false,
+        Action::Jump(_) => false,
+        Action::LanesR => false,
+        Action::LanesI => true,
         Action::Defer => false,
     }
 }
@@ -109,16 +134,24 @@ fn word(words: usize, regs: &mut [u32], memory: &mut [u8], t: usize, pc: u32, w:
         0xA0 => store(regs, memory, t, pc, w, StoreOp::Store8),
         0xA1 => store(regs, memory, t, pc, w, StoreOp::Store16),
         0xA2 => store(regs, memory, t, pc, w, StoreOp::Store32),
+        0x88 => lanes::access(regs, memory, t, pc, w),
+        0xA8 => lanes::access(regs, memory, t, pc, w),
         _ => {
             let action = table::action(regs, memory, t, w, top);
+            if is_lanes_r(action) {
+                return lanes::word(regs, t, pc, w);
+            }
+            if is_lanes_i(action) {
+                return lanes::word(regs, t, pc, w);
+            }
             act(words, regs, t, pc, d, action)
         }
     }
 }
 
-// Tries the word at the thread's s63, for any lengths and any thread number: whether it was executed and the thread goes on. If not,
-// nothing has changed.
-fn try_word(program: &[u32], regs: &mut [u32], memory: &mut [u8], thread: usize) -> bool
+// Tries the word at the thread's s63, for any lengths and any thread number: whether it was executed and the thread goes on, whatever the
+// record is. If not, nothing has changed, and the issue is to be made by `execution::issue`.
+pub fn try_word(program: &[u32], regs: &mut [u32], memory: &mut [u8], thread: usize) -> bool
     ensures { λ r. ⌜
         TriedIssue (now (program .entry)) thread (now (regs .entry)) (now (memory .entry)) r (now (regs .exit)) (now (memory .exit))
         ⌝ }
@@ -133,45 +166,4 @@ fn try_word(program: &[u32], regs: &mut [u32], memory: &mut [u8], thread: usize)
     }
     let w = program[(pc / 4) as usize];
     word(words, regs, memory, thread, pc, w)
-}
-
-// How many turns a thread has had, where there is such a thread.
-fn turns_of(turns: &[u32; 8], thread: usize) -> u32
-    ensures { λ r. ⌜ (thread < 8 → r ≡ getD (now (turns .entry)) thread 0) ⌝ }
-{
-    if 8 <= thread {
-        return 0;
-    }
-    turns[thread]
-}
-
-// One issue, for any lengths and any thread number. As in `execution::issue`, the thread is "last" already and its turn is counted
-// elsewhere. How many it has had, those that are counted and so many more, is worked out where the slow path is taken, and not for every
-// word.
-pub fn issue(
-    program: &[u32],
-    registers: &mut [u32],
-    memory: &mut [u8],
-    machine: Machine,
-    thread: usize,
-    turns: &[u32; 8],
-    more: u64,
-) -> Issued
-    ensures { λ r. ⌜
-        (state (r .machine) (now (registers .exit)) (now (memory .exit))
-        ≡ issue (now (program .entry)) (state machine (now (registers .entry)) (now (memory .entry))) thread
-        (manyMore more (getD (now (turns .entry)) thread 0)))
-        × (r .changed
-        ≡ issueSetsStatus (now (program .entry)) (state machine (now (registers .entry)) (now (memory .entry))) thread
-        (manyMore more (getD (now (turns .entry)) thread 0)))
-        ⌝ }
-{
-    if try_word(program, registers, memory, thread) {
-        return Issued {
-            machine,
-            changed: false,
-        };
-    }
-    let had = thread_entry::many_more(turns_of(turns, thread), more);
-    execution::issue(program, registers, memory, machine, thread, had)
 }

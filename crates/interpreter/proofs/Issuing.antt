@@ -20,12 +20,16 @@ use Rattle.machine.specs.WellFormed.{wellFormed}
 use Rattle.interpreter.specs.Answer.{spent}
 use Rattle.interpreter.specs.Choosing.{ifChosen, performed, issued, issues, reachedBy, reached, idleEnding, endingAt, entriesTo, look, looksFor}
 use Rattle.interpreter.specs.Run.{acceptedRun}
-use Rattle.interpreter.specs.Stretch.{Carried, Over, Stretched}
+use Rattle.interpreter.specs.Stretch.{Carried, Along, Awaits, Over, Stretched}
 use Rattle.interpreter.specs.Types.{Machine, Choice, Chosen, NoneRunning, Stretch}
 
 -- the thread chosen is one of the eight
 pub chosen-thread : (m : Machine) (t d : ℕ) → choice m ≡ Chosen t d → t < 8
 chosen-thread m t d h = let f = chooses m t d .0 h in omega (arith, f .place)
+
+-- where no thread is running, none is chosen
+pub none-chosen : (c : Choice) (t d : ℕ) → c ≡ NoneRunning → c ≡ Chosen t d → ⊥
+none-chosen c t d a b = let z : _≡_ {A = ℕ} 0 1 = ap (λ (x : Choice). ifChosen x (λ t. 1) 0) (sym a ∙ b) in omega arith
 
 -- the counts after an issue of a thread
 abbrev pub raised : List ℕ → ℕ → List ℕ
@@ -57,6 +61,12 @@ pub issue-untouched : (p : List ℕ) (s after : State) (t turns : ℕ) → after
 issue-untouched p s after t turns e changed k h =
     let same : after .machine ≡ s .machine = ap (λ (n : State). n .machine) e ∙ untouched p s t turns (sym k ∙ h) in
     ap (λ (m : Machine). state m (after .registers) (after .memory)) (sym same) ∙ e
+
+-- an issue leaves "last"
+pub issue-last : (p : List ℕ) (s after : State) (t turns : ℕ) → length p ≤ 16384 → length (s .registers) ≡ 8704 → t < 8
+    → after ≡ issue p s t turns → after .machine .last ≡ s .machine .last
+issue-last p s after t turns words regs l e =
+    ap (λ (n : State). n .machine .last) (e ∙ execution-issues p s t turns words regs l) ∙ performs p s t turns .last
 
 -- what an issue makes of the record
 pub issued-sound : (p : List ℕ) (s : State) (t : ℕ) → KeepsRecord (withLast (s .machine) t) t (issued p s t .machine)
@@ -201,6 +211,51 @@ module _ (p : List ℕ) (b : ℕ) (first : State) (m : Machine) (turns : List �
       (rw one
       (carried-issue p b first (b - left) passed (state (withLast m last) registers memory) counts k t d next after words regs
       (rounds-counted .size m passed turns ∙ size) h e (omega arith) (i ∙ ap (issue p (state next registers memory) t) (sym had))))
+
+-- the same of a stretch that is under way: one issue more that sets no status, and one that was chosen before
+module _ (p : List ℕ) (b : ℕ) (first : State) (m : Machine) (turns registers memory : List ℕ)
+    (words : length p ≤ 16384) (regs : length registers ≡ 8704) (size : length turns ≡ 8) where
+  pub along-step : (left passed last t d : ℕ) → Along p b first m turns left passed last registers memory → choice (withLast m last) ≡ Chosen t d
+      → 0 < left → (after stored : List ℕ)
+      → state (withLast m t) after stored ≡ issue p (state (withLast m t) registers memory) t (manyMore ((passed + d - 1) / 8) (getD turns t 0))
+      → Along p b first m turns (left - 1) (passed + d) t after stored
+  along-step left passed last t d k h some after stored i =
+      record {
+        within = omega (arith, k .within);
+        there = passed-on p b first m turns left passed last registers memory words regs size (k .there) t d h;
+        carried =
+            carried-round p b first m turns left passed last registers memory words regs size (k .there) t d h (k .carried) (withLast m t) refl
+            (k .within) some (state (withLast m t) after stored) i;
+      }
+
+  module _ (left passed t : ℕ) (k : Awaits p b first m turns left passed t registers memory) where
+    one-back : left + 1 - 1 ≡ left
+    one-back = omega arith
+
+    pub awaited-made : (after : State)
+        → after ≡ issue p (state (withLast m t) registers memory) t (manyMore ((passed - 1) / 8) (getD turns t 0))
+        → Carried p b first (b - left) passed (recounted after (afterRounds m passed turns))
+    awaited-made after i =
+        subst (λ n. Carried p b first (b - n) passed (recounted after (afterRounds m passed turns))) one-back
+        (subst (λ n. Carried p b first (b - (left + 1 - 1)) n (recounted after (afterRounds m n turns))) (sym (k .sum))
+        (carried-round p b first m turns (left + 1) (k .until) (k .before) registers memory words regs size (k .along .there) t (k .distance) (k .chosen)
+        (k .along .carried) (withLast m t) refl (k .along .within) (omega arith) after
+        (i ∙ ap (λ n. issue p (state (withLast m t) registers memory) t (manyMore ((n - 1) / 8) (getD turns t 0))) (k .sum))))
+
+    pub awaited-on : (after stored : List ℕ)
+        → state (withLast m t) after stored ≡ issue p (state (withLast m t) registers memory) t (manyMore ((passed - 1) / 8) (getD turns t 0))
+        → Along p b first m turns left passed t after stored
+    awaited-on after stored i =
+        record {
+          within = omega (arith, k .along .within);
+          there =
+              passed-on p b first m turns (left + 1) (k .until) (k .before) registers memory words regs size (k .along .there) t (k .distance) (k .chosen)
+              ∙ ap (λ n. (m .last + n) % 8) (sym (k .sum));
+          carried = awaited-made (state (withLast m t) after stored) i;
+        }
+
+    pub awaited-some : 0 < passed
+    awaited-some = let f = chooses (withLast m (k .before)) t (k .distance) .0 (k .chosen) in omega (arith, k .sum, f .low)
 
 -- the looks of a stretch, after which the run goes on or is over
 module _ (p : List ℕ) (b : ℕ) (first : State) (r : Stretch) (s : State) (k : Stretched p b first r s) where

@@ -1,5 +1,5 @@
 -- What a call has of its lengths and numbers where the table gives it none, and what it then gives.
-use Prim.Native.Nat.{ℕ, _≤_}
+use Prim.Native.Nat.{ℕ, _<_, _≤_}
 use mathlib.Core.Bool.{true, false}
 use mathlib.Core.List.{List}
 use mathlib.Core.Option.{none, some}
@@ -11,9 +11,11 @@ use lib.ListN.{length}
 use Rattle.answer.proofs.Checks.{passed}
 use Rattle.answer.specs.Answer.{given, refused}
 use Rattle.machine.specs.State.{State}
+use Rattle.machine.proofs.Claims.{tested}
 use Rattle.machine.proofs.Tests.{neither}
 use Rattle.machine.specs.Machine.{zeroed, start as startRecord}
 use Rattle.machine.specs.WellFormed.{wellFormed}
+use Rattle.thread_entry.specs.Status.{limits}
 use Rattle.answer.specs.Refusal.{badProgram, badRegisters, badMemory, badMask, firstThatApplies}
 use Rattle.interpreter.specs.Refusal.{badRecord, startNumber, runNumber}
 use Rattle.interpreter.specs.Run.{number, runIssues, runReached, runAnswer, runLooks, acceptedRun, run}
@@ -76,6 +78,9 @@ module _ (words regs bytes : ℕ) (m : Machine) where
 
     pub taken-regs : regs ≡ 8704
     taken-regs = eqb-true regs 8704 (not-false (eqb regs 8704) (k .registers))
+
+    pub taken-last : m .last < 8
+    taken-last = let w = tested limits m .0 (k .well-formed) in omega (arith, w .last-range)
 
 module _ (p : List ℕ) (b : ℕ) (s : State) where
   pub run-refused : (n : ℕ) → number p s ≡ some n → record { answer = refused n; issues = 0; looks = 0; left = s } ≡ run p b s

@@ -5,6 +5,7 @@ pub use Rattle.interpreter.specs.declared.outcome.Start.{Start}
 pub use Rattle.interpreter.specs.declared.outcome.RunAnswer.{RunAnswer}
 pub use Rattle.interpreter.specs.declared.outcome.RunAnswer.the-variants.{Stopped, Stuck, Spent, Refused as RunRefused}
 pub use Rattle.interpreter.specs.declared.outcome.Run.{Run}
+pub use Rattle.interpreter.specs.declared.running.FastIssues.{FastIssues}
 pub use Rattle.interpreter.specs.declared.running.Stretch.{Stretch}
 pub use Rattle.thread_entry.specs.declared.status.Thread.{Thread}
 pub use Rattle.machine.specs.declared.record.Machine.{Machine}

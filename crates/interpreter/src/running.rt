@@ -1,5 +1,5 @@
 // A program is run.
-ghost use Prim.Native.Nat.{_≤_};
+ghost use Prim.Native.Nat.{_+_, _*_, _^_, _≤_, _<_};
 ghost use mathlib.Core.Bool.{cond};
 ghost use mathlib.Core.Path.{_≡_};
 ghost use lib.ListN.{length};
@@ -11,7 +11,7 @@ ghost use Rattle.interpreter.specs.Answer.{stopped, stuck, spent, answer
 ghost use Rattle.interpreter.specs.Choosing.{idleEnding};
 ghost use Rattle.interpreter.specs.Refusal.{recordNumber, runNumber};
 ghost use Rattle.interpreter.specs.Run.{outcome, acceptedRun, run};
-ghost use Rattle.interpreter.specs.Stretch.{Stretched};
+ghost use Rattle.interpreter.specs.Stretch.{Repeats, Continues, Stretched};
 use crate::outcome::Run;
 use crate::outcome::RunAnswer;
 use answer::Verdict;
@@ -21,6 +21,7 @@ use machine::Choice;
 use machine::Machine;
 use run_record::some_waits;
 use run_record::with_last;
+use thread_entry::many_more;
 use turn_counts::count_rounds;
 use turn_counts::with_turns;
 use well_formedness::well_formed;
@@ -73,6 +74,108 @@ fn ended(machine: Machine, running: bool, made: u32, looks: u64) -> Run
     }
 }
 
+// Issues of the fast path in a row: the thread issued last, how many issues are left in the budget, how many entries "last" has passed, and
+// whether the last of them is deferred: chosen and counted, and still to be made, by the slow path.
+pub struct FastIssues {
+    pub last: usize,
+    pub left: u32,
+    pub passed: u64,
+    pub deferred: bool,
+}
+
+// Issues of one thread in a row, by the fast path: one where others are running too, else up to the first whose word is left to the slow
+// path. That one is made by the caller, so that the compiler has no call and no record in this loop.
+fn make_thread_issues(
+    program: &[u32],
+    registers: &mut [u32],
+    memory: &mut [u8],
+    thread: usize,
+    distance: usize,
+    others: bool,
+    mut left: u32,
+    mut passed: u64,
+) -> FastIssues
+    requires { ⌜ (0 < left) × (distance ≤ 8) × (passed + 8 * left < 2 ^ 64) ⌝ }
+    ensures { λ r. ⌜
+        Repeats (now (program .entry)) thread distance others left passed (now (registers .entry)) (now (memory .entry)) r (now (registers .exit))
+        (now (memory .exit))
+        ⌝ }
+{
+    loop {
+        passed += distance as u64;
+        left -= 1;
+        let done = fast_path::try_word(program, registers, memory, thread);
+        if !done {
+            return FastIssues {
+                last: thread,
+                left,
+                passed,
+                deferred: true,
+            };
+        }
+        if (left == 0) | others {
+            return FastIssues {
+                last: thread,
+                left,
+                passed,
+                deferred: false,
+            };
+        }
+    }
+}
+
+// Issues up to the first whose word is left to the slow path. Nothing of the record changes but "last", so that the compiler finds the
+// running threads once and not for every issue. Where the thread chosen was "last" already the record stays the same, and so does the
+// choice.
+fn make_fast_issues(
+    program: &[u32],
+    registers: &mut [u32],
+    memory: &mut [u8],
+    machine: Machine,
+    last: usize,
+    left: u32,
+    passed: u64,
+) -> FastIssues
+    requires { ⌜ (length (now program) ≤ programWords) × (length (now registers) ≡ registerWords) × (last < 8) × (passed + 8 * left < 2 ^ 64) ⌝ }
+    ensures { λ r. ⌜
+        (r .last < 8) × (r .left + cond (r .deferred) 1 0 ≤ left)
+        × Continues (now (program .entry)) machine left passed last (now (registers .entry)) (now (memory .entry)) r (now (registers .exit))
+        (now (memory .exit))
+        ⌝ }
+{
+    let mut fast = FastIssues {
+        last,
+        left,
+        passed,
+        deferred: false,
+    };
+    loop {
+        if fast.deferred | (fast.left == 0) {
+            return fast;
+        }
+        let at = with_last(machine, fast.last as u8);
+        let turn = at.choose();
+        let choice = turn.choice;
+        match choice {
+            Choice::NoneRunning => {
+                return fast;
+            }
+            Choice::Chosen { thread, distance } => {
+                fast = make_thread_issues(
+                    program,
+                    registers,
+                    memory,
+                    thread,
+                    distance,
+                    thread != fast.last,
+                    fast.left,
+                    fast.passed,
+                );
+            }
+        }
+    }
+}
+
 // Issues in a row: the record that they reach, but for its counts of turns, how many issues are left in the budget, how many entries
 // "last" has passed, how many were looked at, whether the last of them changed a status, and, where it did not and nothing more is
 // issued, whether a thread is running: the look that tells so counts too.
@@ -85,9 +188,8 @@ pub struct Stretch {
     pub running: bool,
 }
 
-// Issues up to the first that changes a status. Until then nothing of the record changes but "last", so that the compiler finds the
-// running threads once and not for every issue, and nothing is counted for an issue: every round of eight entries is one turn of each
-// running thread.
+// Issues up to the first that changes a status. Nothing is counted for an issue: every round of eight entries is one turn of each running
+// thread.
 fn make_stretch(
     program: &[u32],
     registers: &mut [u32],
@@ -96,69 +198,65 @@ fn make_stretch(
     turns: &[u32; 8],
     mut left: u32,
 ) -> Stretch
-    requires { ⌜ (length (now program) ≤ programWords) × (length (now registers) ≡ registerWords) × (length (now turns) ≡ 8) ⌝ }
+    requires { ⌜
+        (length (now program) ≤ programWords) × (length (now registers) ≡ registerWords) × (length (now turns) ≡ 8) × (machine .last < 8)
+        ⌝ }
     ensures { λ r. ⌜
         Stretched (now (program .entry)) left
         (recounted (state machine (now (registers .entry)) (now (memory .entry))) (now (turns .entry))) r
         (recounted (state (r .machine) (now (registers .exit)) (now (memory .exit))) (afterRounds machine (r .passed) (now (turns .entry))))
+        × (r .machine .last < 8)
         ⌝ }
 {
     let mut passed: u64 = 0;
-    let mut last = machine.last;
+    // below 8 already: said again for the compiler
+    let mut last = (machine.last % 8) as usize;
     loop {
-        let at = with_last(machine, last);
-        let turn = at.choose();
-        let choice = turn.choice;
-        let next = turn.machine;
-        match choice {
-            Choice::NoneRunning => {
-                return Stretch {
+        let fast = make_fast_issues(program, registers, memory, machine, last, left, passed);
+        let deferred = fast.deferred;
+        left = fast.left;
+        last = fast.last;
+        passed = fast.passed;
+        let at = with_last(machine, last as u8);
+        if !deferred {
+            let turn = at.choose();
+            let choice = turn.choice;
+            return match choice {
+                Choice::NoneRunning => Stretch {
                     machine: at,
                     left,
                     passed,
                     looks: passed + 8,
                     changed: false,
                     running: false,
-                };
-            }
-            Choice::Chosen { thread, distance } => {
-                let reached = passed + distance as u64;
-                if left == 0 {
-                    return Stretch {
-                        machine: at,
-                        left,
-                        passed,
-                        looks: reached,
-                        changed: false,
-                        running: true,
-                    };
-                }
-                left -= 1;
-                let rounds = (reached - 1) / 8;
-                let issued = fast_path::issue(
-                    program,
-                    registers,
-                    memory,
-                    next,
-                    thread,
-                    turns,
-                    rounds,
-                );
-                let after = issued.machine;
-                let changed = issued.changed;
-                if changed {
-                    return Stretch {
-                        machine: after,
-                        left,
-                        passed: reached,
-                        looks: reached,
-                        changed,
-                        running: true,
-                    };
-                }
-                passed = reached;
-                last = next.last;
-            }
+                },
+                Choice::Chosen {
+                    thread: _,
+                    distance,
+                } => Stretch {
+                    machine: at,
+                    left,
+                    passed,
+                    looks: passed + distance as u64,
+                    changed: false,
+                    running: true,
+                },
+            };
+        }
+        let rounds = (passed - 1) / 8;
+        let had = many_more(turns[last], rounds);
+        let issued = execution::issue(program, registers, memory, at, last, had);
+        let after = issued.machine;
+        let changed = issued.changed;
+        if changed {
+            return Stretch {
+                machine: after,
+                left,
+                passed,
+                looks: passed,
+                changed,
+                running: true,
+            };
         }
     }
 }
@@ -171,16 +269,19 @@ fn make_issues(
     mut machine: Machine,
     budget: u32,
 ) -> Run
-    requires { ⌜ (length (now program) ≤ programWords) × (length (now registers) ≡ registerWords) ⌝ }
+    requires { ⌜ (length (now program) ≤ programWords) × (length (now registers) ≡ registerWords) × (machine .last < 8) ⌝ }
     ensures { λ r. ⌜ outcome r (now (registers .exit)) (now (memory .exit)) ≡ acceptedRun (now (program .entry)) budget (state machine (now (registers .entry)) (now (memory .entry))) ⌝ }
 {
     let mut left = budget;
     let mut looks: u64 = 0;
     let mut turns = turn_counts::turns(machine);
     loop {
-        let stretch = make_stretch(program, registers, memory, machine, &turns, left);
+        // lent as a copy, so that the compiler need not keep the counts themselves in memory
+        let counted = turns;
+        let stretch = make_stretch(program, registers, memory, machine, &counted, left);
         let changed = stretch.changed;
-        turns = count_rounds(machine, turns, stretch.passed);
+        let rounds = count_rounds(machine, turns, stretch.passed);
+        turns = rounds;
         machine = stretch.machine;
         left = stretch.left;
         looks += stretch.looks;

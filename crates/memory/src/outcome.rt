@@ -13,8 +13,8 @@ pub enum Loaded {
     Outside,
 }
 
-// The lanes are 0 unless the access is done.
+// The lanes are 0 unless the access is done. They stand first: behind one byte the compiler copies them at odd places.
 pub struct LoadedLanes {
-    pub access: Access,
     pub lanes: [u32; 16],
+    pub access: Access,
 }

@@ -13,7 +13,7 @@ use alu::integer_unary;
 use isa::BinaryOp;
 use isa::UnaryOp;
 
-fn each_integer(op: BinaryOp, x: [u32; 16], y: [u32; 16]) -> [u32; 16]
+pub fn each_integer(op: BinaryOp, x: [u32; 16], y: [u32; 16]) -> [u32; 16]
     ensures { λ r. ⌜ r ≡ tab 16 (λ j. integer op (lane x j) (lane y j)) ⌝ }
 {
     let mut v = [0u32; 16];

@@ -3,6 +3,7 @@ mod lanes;
 
 pub use lanes::binary_masked;
 pub use lanes::blend;
+pub use lanes::each_integer;
 pub use lanes::is_on;
 pub use lanes::shuffle;
 pub use lanes::unary_masked;

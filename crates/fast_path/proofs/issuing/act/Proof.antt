@@ -28,9 +28,13 @@ act-spec =
     (λ c κs. search needs)
     (λ c. search needs)
     (λ c. search needs)
+    (λ c. search needs)
+    (λ c. search needs)
     returns
     (λ c. search needs)
     returns-2
     (λ c. search needs)
     returns-3
+    (λ c. search needs)
+    (λ c. search needs)
     (λ c. search needs))

@@ -5,7 +5,7 @@ use borrow.Author.Needs.{needs}
 use Rattle.machine.specs.State.{State, state}
 use Rattle.answer.specs.Refusal.{numberOf}
 use Rattle.interpreter.specs.Run.{number}
-use Rattle.interpreter.proofs.Refusals.{run-taken, taken-words, taken-regs, run-refused, run-accepted}
+use Rattle.interpreter.proofs.Refusals.{run-taken, taken-words, taken-regs, taken-last, run-refused, run-accepted}
 use Rattle.interpreter.proofs.running.run.Statement.{statement}
 use Rattle.interpreter.proofs.running.run.Tie as tie
 
@@ -20,7 +20,7 @@ returns c =
 make-issues-requires : tie.Need-make-issues-requires
 make-issues-requires c κs =
     let k = run-taken _ _ _ _ (sym (c .before .before .before .before .run-verdict .ensures) ∙ ap numberOf (c .before .before .enum-told .given .1)) in
-    (taken-words _ _ _ _ k, taken-regs _ _ _ _ k)
+    (taken-words _ _ _ _ k, taken-regs _ _ _ _ k, taken-last _ _ _ _ k)
 
 -- not refused
 returns-2 : tie.Need-returns-2
