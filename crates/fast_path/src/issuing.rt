@@ -1,6 +1,6 @@
 // The word of a thread's issue, tried by the fast path.
 ghost use mathlib.Core.Path.{_≡_};
-ghost use Prim.Native.Nat.{_/_, _^_, _≤_, _<_};
+ghost use Prim.Native.Nat.{_≤_, _<_};
 ghost use Rattle.answer.specs.Refusal.{programWords};
 ghost use Rattle.execution.specs.Issue.{fits};
 ghost use Rattle.execution.specs.Jump.{inProgram};

@@ -83,7 +83,7 @@ pub struct FastIssues {
     pub deferred: bool,
 }
 
-// Issues of one thread in a row, by the fast path: one where others are running too, else up to the first whose word is left to the slow
+// Issues of one thread in a row, by the fast path: one where others may be running too, else up to the first whose word is left to the slow
 // path. That one is made by the caller, so that the compiler has no call and no record in this loop.
 fn make_thread_issues(
     program: &[u32],

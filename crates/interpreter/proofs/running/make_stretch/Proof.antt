@@ -1,21 +1,19 @@
 -- `running::make_stretch` meets its contract: the fast path makes issues up to one that the slow path makes, until a status is set or
 -- nothing more is issued.
-use Prim.Native.Nat.{_+_, _-_, _*_, _/_, _%_, _<_, _≤_}
-use mathlib.Core.Bool.{true, false}
+use Prim.Native.Nat.{_+_, _-_, _%_, _<_}
 use mathlib.Core.Path.{_≡_, refl, sym, ap, _∙_}
 use native.Mathlib.Omega.{arith}
 use borrow.Author.Needs.{needs}
 use borrow.Author.Tests.{not-true, not-false}
-use lib.ListN.{length, getD}
-use Rattle.execution.specs.Issue.{issue, issueSetsStatus}
-use Rattle.thread_entry.specs.Entry.{manyMore}
+use lib.ListN.{length}
+use Rattle.execution.specs.Issue.{issue}
 use Rattle.machine.specs.Rounds.{afterRounds}
 use Rattle.machine.specs.Scheduler.{choice, withLast}
-use Rattle.machine.specs.State.{State, state, recounted}
+use Rattle.machine.specs.State.{state, recounted}
 use Rattle.machine.proofs.Claims.{chooses, turned, rounds-counted}
 use Rattle.machine.proofs.Tests.{never}
-use Rattle.interpreter.specs.Stretch.{Along, Awaits, CameTo}
-use Rattle.interpreter.specs.Types.{Machine, Chosen, NoneRunning}
+use Rattle.interpreter.specs.Stretch.{Along, CameTo}
+use Rattle.interpreter.specs.Types.{Chosen, NoneRunning}
 use Rattle.interpreter.proofs.Issuing.{chosen-beside, look-none, look-some, carried-start, issue-untouched, issue-last, awaited-made, awaited-on, awaited-some, over-idle, over-spent}
 use Rattle.interpreter.proofs.Runs.{carried-within}
 use Rattle.interpreter.proofs.running.make_stretch.Statement.{statement}

@@ -1,7 +1,5 @@
 -- `running::make_thread_issues` meets its contract: each issue is the rules' next one, as long as the thread was "last" already.
-use Prim.Native.Nat.{ℕ, _+_, _-_, _*_, _<_, _≤_}
-use mathlib.Core.Bool.{Bool, false}
-use mathlib.Core.List.{List}
+use Prim.Native.Nat.{_+_, _-_, _*_, _<_, _≤_}
 use mathlib.Core.Path.{_≡_, refl, sym, ap, _∙_}
 use native.Mathlib.Omega.{arith}
 use borrow.Author.Needs.{needs}
@@ -9,9 +7,8 @@ use borrow.Author.Tests.{eqb-false, not-true, not-false}
 use lib.Dec.{eqb}
 use lib.ListN.{length}
 use Rattle.machine.specs.Scheduler.{choice, withLast}
-use Rattle.machine.specs.State.{State}
 use Rattle.machine.proofs.Tests.{neither}
-use Rattle.interpreter.specs.Stretch.{Along, Chooses, Goes}
+use Rattle.interpreter.specs.Stretch.{Chooses, Goes}
 use Rattle.interpreter.proofs.Issuing.{along-step}
 use Rattle.interpreter.proofs.running.make_thread_issues.Statement.{statement}
 use Rattle.interpreter.proofs.running.make_thread_issues.Tie as tie
