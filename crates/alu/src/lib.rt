@@ -1,4 +1,6 @@
 // Operations on 32-bit words (document 01, "The words").
+#![tactic(auto)]
+
 mod extend;
 mod product;
 mod scalar;

@@ -1,4 +1,6 @@
 // What a call gives back: a value, or a number of document 01's table "Numbers given back".
+#![tactic(auto)]
+
 mod refusal;
 
 pub use refusal::{

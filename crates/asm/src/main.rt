@@ -1,4 +1,6 @@
 // The assembler's program: reads a program as text from standard input, and writes its words to standard output.
+#![tactic(auto)]
+
 use answer::PROGRAM_WORDS;
 use assembler::Assembly;
 use libc::STDIN_FILENO;

@@ -1,5 +1,7 @@
 // The C library's calls on a machine, as include/korvammel.h declares them: started, run, saved and restored. Each takes numbers and
 // lent arrays, and answers 0 or a number of the table.
+#![tactic(auto)]
+
 mod images;
 mod numbers;
 mod runs;

@@ -1,4 +1,6 @@
 // The C library's traced run, as include/korvammel.h declares it.
+#![tactic(auto)]
+
 mod calls;
 mod filling;
 mod numbers;

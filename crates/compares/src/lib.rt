@@ -1,4 +1,6 @@
 // A compare of sixteen lanes as a bit a lane (document 01, "The words").
+#![tactic(auto)]
+
 mod outcome;
 
 pub use outcome::compare_lanes;

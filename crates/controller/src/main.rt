@@ -1,5 +1,7 @@
 // The controller: starts the program of a named file, reads a minute a line from standard input, and prints an answer for each line when
 // it is read (document 02, T-14).
+#![tactic(auto)]
+
 mod serving;
 
 ghost use Rattle.io.specs.Counts.{IsPrefixLen};

@@ -1,4 +1,6 @@
 // The converter: reads a saved machine from an image of either form, and writes it in the form that is asked for.
+#![tactic(auto)]
+
 ghost use Rattle.std.specs.Prelude.{◌≤◌, length};
 ghost use Rattle.answer.specs.Refusal.{memory_bytes};
 

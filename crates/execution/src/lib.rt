@@ -1,4 +1,6 @@
 // One issue of a thread (document 01, "One issue" and "The words").
+#![tactic(auto)]
+
 mod access;
 mod context;
 mod control;

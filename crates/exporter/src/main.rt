@@ -1,4 +1,6 @@
 // The exporter: reads a program's words from standard input, and writes it in Intel HEX to standard output.
+#![tactic(auto)]
+
 use answer::PROGRAM_WORDS;
 use hex::{Exported, LONGEST};
 use libc::{STDIN_FILENO, STDOUT_FILENO};

@@ -1,4 +1,6 @@
 // The fast path of an issue: frequent words straight from their top byte (document 01, "One issue").
+#![tactic(auto)]
+
 mod action;
 mod family;
 mod field;

@@ -1,4 +1,6 @@
 // The interpreter's test program: runs the figures of the papers that are run, and prints what happened, a line a figure.
+#![tactic(auto)]
+
 ghost use Rattle.std.specs.Prelude.{◌≡◌, ◌<◌, length};
 ghost use Rattle.answer.specs.Refusal.{register_words};
 

@@ -1,4 +1,6 @@
 // Files and streams, whole: read into a lent buffer, written, and what is said where that fails.
+#![tactic(auto)]
+
 mod complaints;
 mod reading;
 mod writing;

@@ -1,4 +1,6 @@
 // The float unit on 32-bit patterns: R opcodes 33 to 42, 48 and 49 (document 02, T-08).
+#![tactic(auto)]
+
 mod arithmetic;
 mod convert;
 mod order;

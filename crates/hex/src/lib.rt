@@ -1,4 +1,6 @@
 // Programs in Intel HEX (document 02, T-06): export and import.
+#![tactic(auto)]
+
 mod digits;
 mod exporting;
 mod importing;

@@ -1,4 +1,6 @@
 // The saved image of a machine, written and read (document 01, "Saved image").
+#![tactic(auto)]
+
 mod bytes;
 mod entries;
 mod fields;

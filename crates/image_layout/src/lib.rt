@@ -1,4 +1,6 @@
 // The table of an image's records: kinds, rows, fixed places, and what a record opens with (document 01, "Saved image").
+#![tactic(auto)]
+
 mod heads;
 mod layout;
 

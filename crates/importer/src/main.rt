@@ -1,4 +1,6 @@
 // The importer: reads a program in Intel HEX from standard input, and writes its words to standard output.
+#![tactic(auto)]
+
 use answer::PROGRAM_WORDS;
 use hex::Imported;
 use libc::STDIN_FILENO;

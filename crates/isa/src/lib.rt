@@ -1,4 +1,6 @@
 // Instruction words of the house core: read into instructions, and written from them (document 01, "The words").
+#![tactic(auto)]
+
 mod field;
 mod instruction;
 mod opcode;

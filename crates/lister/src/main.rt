@@ -1,4 +1,6 @@
 // The lister: reads a program's words from standard input and prints its listing.
+#![tactic(auto)]
+
 use libc::{STDIN_FILENO, STDOUT_FILENO};
 use listing::LONGEST;
 use program::INPUT_BYTES;

@@ -1,4 +1,6 @@
 // Loads and stores on data memory (document 01, "The words", M).
+#![tactic(auto)]
+
 mod bytes;
 mod lanes;
 mod outcome;

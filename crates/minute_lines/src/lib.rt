@@ -1,4 +1,6 @@
 // The lines of the night box: minutes read byte by byte, and answers as text (document 02, T-14).
+#![tactic(auto)]
+
 mod answers;
 mod parsing;
 mod taking;

@@ -1,4 +1,6 @@
 // A program's bytes: their words, the bytes of words, and whether they are a program (number 1 of document 01's table).
+#![tactic(auto)]
+
 mod reading;
 mod writing;
 

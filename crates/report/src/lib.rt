@@ -1,4 +1,6 @@
 // What the runner prints, as a function of how a run ended, put into a lent buffer.
+#![tactic(auto)]
+
 mod looks;
 mod summary;
 

@@ -1,5 +1,7 @@
 // The runner: reads a program, starts a machine or resumes a saved one, runs the program on it, prints a line for an issue where asked,
 // saves the machine where asked, and prints how the run ended.
+#![tactic(auto)]
+
 mod going_on;
 mod saving;
 mod settings;

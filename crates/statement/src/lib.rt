@@ -1,4 +1,6 @@
 // One line of a program as text: a name, its operands, and the word that they mean.
+#![tactic(auto)]
+
 mod lines;
 mod mnemonics;
 mod operands;

@@ -1,4 +1,6 @@
 // Text in a lent buffer: bytes put at a place, and numbers in hex and decimal; and numbers read from text.
+#![tactic(auto)]
+
 mod buffer;
 mod number;
 mod parsing;

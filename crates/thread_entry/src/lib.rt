@@ -1,5 +1,7 @@
 // A thread's entry of the machine record: its status with what that carries, its count of turns, and what is asked of one (document 01,
 // "What a machine holds").
+#![tactic(auto)]
+
 mod idle;
 mod meeting;
 mod running;

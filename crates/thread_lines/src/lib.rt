@@ -1,4 +1,6 @@
 // The lines that the runner prints of a machine's threads, put into a lent buffer.
+#![tactic(auto)]
+
 mod line;
 mod lines;
 

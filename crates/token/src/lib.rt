@@ -1,4 +1,6 @@
 // The tokens of a program's text: blanks, words and marks, and what a word is.
+#![tactic(auto)]
+
 mod byte;
 mod token;
 mod word;

@@ -1,4 +1,6 @@
 // A traced run (02, T-03): the plain run, and a row of a lent list for each issue.
+#![tactic(auto)]
+
 mod joining;
 mod page;
 mod row;

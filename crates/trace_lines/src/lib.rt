@@ -1,4 +1,6 @@
 // The lines that a trace prints, put into a lent buffer.
+#![tactic(auto)]
+
 mod line;
 mod page;
 

@@ -1,4 +1,6 @@
 // The counts of turns of a machine's threads: read, put, and counted by rounds (document 02, T-05).
+#![tactic(auto)]
+
 mod counts;
 mod rounds;
 

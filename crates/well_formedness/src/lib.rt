@@ -1,4 +1,6 @@
 // Whether a machine record is well formed (document 01, "What a machine holds").
+#![tactic(auto)]
+
 mod range;
 mod record;
 

@@ -1,4 +1,6 @@
 // The layout of an instruction word: each format's parts and prefix, and the signed numbers in them (document 01, "The words").
+#![tactic(auto)]
+
 mod field;
 mod prefix;
 
