@@ -2,12 +2,12 @@
 use Prim.Native.Nat.{ℕ}
 use mathlib.Core.List.{List, [], ◌∷◌}
 use mathlib.Core.Path.{◌≡◌, sym, ap, ◌∙◌}
-use Rattle.hex.specs.Export.{Export, exported}
-use Rattle.hex.specs.Import.{Import, imported}
-use Rattle.hex.specs.declared.exporting.Exported.{Exported}
-use Rattle.hex.specs.declared.exporting.Exported.TheVariants.{Length, Refused as ExportRefused}
-use Rattle.hex.specs.declared.importing.Imported.{Imported}
-use Rattle.hex.specs.declared.importing.Imported.TheVariants.{Words, Refused as ImportRefused}
+use Rattle.intel_hex.specs.Export.{Export, exported}
+use Rattle.intel_hex.specs.Import.{Import, imported}
+use Rattle.intel_hex.specs.declared.exporting.Exported.{Exported}
+use Rattle.intel_hex.specs.declared.exporting.Exported.TheVariants.{Length, Refused as ExportRefused}
+use Rattle.intel_hex.specs.declared.importing.Imported.{Imported}
+use Rattle.intel_hex.specs.declared.importing.Imported.TheVariants.{Words, Refused as ImportRefused}
 use Rattle.capi_hex.specs.Calls.{took, taking, gave, giving}
 
 module _ (r : Imported) (l : List ℕ) (i : Import) (is : imported r l ≡ i) where

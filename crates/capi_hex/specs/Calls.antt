@@ -1,8 +1,8 @@
 -- Import and export (document 02, T-06), with what they hand back in lent numbers.
 use Rattle.std.specs.Prelude.{ℕ, List, [], ◌∷◌}
 use Rattle.answer.specs.Answer.{Answer, given, refused}
-use Rattle.hex.specs.Import.{Import, import_into}
-use Rattle.hex.specs.Export.{Export, export_into}
+use Rattle.intel_hex.specs.Import.{Import, import_into}
+use Rattle.intel_hex.specs.Export.{Export, export_into}
 
 -- what an import answers and leaves: 0 or a number of the table; the words and the refused line; the program
 pub record Took : Type 0 where

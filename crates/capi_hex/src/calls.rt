@@ -2,7 +2,7 @@
 ghost use Rattle.std.specs.Prelude.{◌≡◌};
 ghost use Rattle.capi_hex.specs.Calls.{took, import_call, gave, export_call};
 
-use hex::{Exported, Imported};
+use intel_hex::{Exported, Imported};
 
 // Imports a text's program; the result is its words, and the line that is refused.
 #[unsafe(no_mangle)]
@@ -13,7 +13,7 @@ pub extern "C" fn korvammel_hex_import(
 ) -> u32
     ensures { took result res.new program.new ≡ import_call text.now program.old }
 {
-    let answer = hex::import(text, program);
+    let answer = intel_hex::import(text, program);
     match answer {
         Imported::Words(count) => {
             *res = [count, 0];
@@ -31,7 +31,7 @@ pub extern "C" fn korvammel_hex_import(
 pub extern "C" fn korvammel_hex_export(program: &[u32], text: &mut [u8], length: &mut usize) -> u32
     ensures { gave result length.new text.new ≡ export_call program.now text.old length.old }
 {
-    let answer = hex::export(program, text);
+    let answer = intel_hex::export(program, text);
     match answer {
         Exported::Length(n) => {
             *length = n;

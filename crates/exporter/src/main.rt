@@ -2,13 +2,13 @@
 #![tactic(auto)]
 
 use answer::PROGRAM_WORDS;
-use hex::{Exported, LONGEST};
+use intel_hex::{Exported, LONGEST};
 use libc::{STDIN_FILENO, STDOUT_FILENO};
 use program::INPUT_BYTES;
 
 fn export(words: &[u32]) {
     let mut text = [0u8; LONGEST];
-    let answer = hex::export(words, &mut text);
+    let answer = intel_hex::export(words, &mut text);
     match answer {
         Exported::Refused(number) => files::refuse(number),
         Exported::Length(length) => {

@@ -2,7 +2,7 @@
 #![tactic(auto)]
 
 use answer::PROGRAM_WORDS;
-use hex::Imported;
+use intel_hex::Imported;
 use libc::STDIN_FILENO;
 use program::PROGRAM_BYTES;
 
@@ -14,7 +14,7 @@ const ROOM: usize = LONGEST + 1;
 
 fn import(text: &[u8]) {
     let mut words = [0u32; PROGRAM_WORDS];
-    let answer = hex::import(text, &mut words);
+    let answer = intel_hex::import(text, &mut words);
     match answer {
         Imported::Refused(number, line) => files::refuse_at(line, number),
         Imported::Words(count) => files::write_words(&words[..count]),

@@ -1,6 +1,6 @@
 -- `export` is safe: the text is a part of its buffer.
 use borrow.Author.Rules.{rules}
-use Rattle.hex.proofs.Shown.{text-within}
+use Rattle.intel_hex.proofs.Shown.{text-within}
 use Rattle.text.proofs.Shown.{shown}
 use Rattle.exporter.proofs.export.Statement.{statement}
 use Rattle.exporter.proofs.export.Tie as tie

@@ -1,6 +1,6 @@
 -- `import` is safe: the words are a part of their buffer.
 use borrow.Author.Rules.{rules}
-use Rattle.hex.proofs.Shown.{words-within}
+use Rattle.intel_hex.proofs.Shown.{words-within}
 use Rattle.text.proofs.Shown.{shown}
 use Rattle.importer.proofs.import.Statement.{statement}
 use Rattle.importer.proofs.import.Tie as tie

@@ -1,0 +1,139 @@
+-- The fields of a record, by their places among the digits.
+use Prim.Native.Nat.{ℕ, zero, suc, ◌+◌, ◌-◌, ◌*◌, ◌%◌, ◌≤◌, ◌<◌}
+use mathlib.Core.Bool.{Bool, true, false, ◌&&◌, not, cond}
+use mathlib.Core.List.{List, [], ◌∷◌}
+use mathlib.Core.Option.{Option, none, some}
+use mathlib.Core.Path.{◌≡◌, refl, sym, ap, ◌∙◌}
+use native.Mathlib.Omega.{arith}
+use borrow.Author.Tests.{eq-eqb, ne_eqb, eqb-true}
+use lib.Dec.{eqb}
+use lib.ListN.{length, get_or, take, drop}
+use lib.Seq.{length-take-le}
+use Rattle.intel_hex.specs.Digits.{pair, pairs, total}
+use Rattle.intel_hex.specs.Record.{no_record, data_record, upper_record, end_record, typed, fields_of, bytes_record, colon_record, record_of, without_cr}
+use Rattle.intel_hex.specs.Scan.{heading, heading_at, digested, FieldsRead}
+use Rattle.intel_hex.specs.Types.{Heading, Bad, Data, Base, End, Sum, NoHex}
+use Rattle.intel_hex.proofs.Pairs.{Written, written, written-length, written-get}
+
+pub fields-short : (bs : List ℕ) → (length bs ≡ get_or bs 0 0 + 5 → ⊥) → fields_of bs ≡ no_record
+fields-short [] h = refl
+fields-short (n ∷ []) h = refl
+fields-short (n ∷ a ∷ []) h = refl
+fields-short (n ∷ a ∷ b ∷ []) h = refl
+fields-short (n ∷ a ∷ b ∷ t ∷ r) h = rw (ne_eqb (length r) (n + 1) (λ e. h (omega arith)))
+
+fields-long : (bs : List ℕ) (n : ℕ) → n ≡ get_or bs 0 0 → length bs ≡ n + 5 →
+    fields_of bs ≡ cond (eqb (total bs % 256) 0) (typed (get_or bs 3 0) (256 * get_or bs 1 0 + get_or bs 2 0) n (take n (drop 4 bs))) no_record
+fields-long [] n e h = absurd (omega arith)
+fields-long (m ∷ []) n e h = absurd (omega arith)
+fields-long (m ∷ a ∷ []) n e h = absurd (omega arith)
+fields-long (m ∷ a ∷ b ∷ []) n e h = absurd (omega arith)
+fields-long (m ∷ a ∷ b ∷ t ∷ r) n e h = rw (e, eq-eqb (length r) (m + 1) (omega arith))
+
+and_right : (a b : Bool) → (a && b) ≡ true → b ≡ true
+and_right true b e = e
+and_right false b e = let z : ◌≡◌ {A = ℕ} 0 1 = cc in absurd (omega arith)
+
+typed-heading : (type address n u : ℕ) (ds : List ℕ) → length ds ≡ n → (n ≡ 2 → u ≡ 256 * get_or ds 0 0 + get_or ds 1 0) →
+    heading_at type address n u ≡ heading (typed type address n ds)
+unfolding heading_at
+typed-heading type address n u ds l h =
+    go (eqb type 0 && not (eqb n 0)) (eqb type 1 && eqb address 0 && eqb n 0) (eqb type 4 && eqb address 0 && eqb n 2) (λ e. h (eqb-true n 2 (and_right (eqb type 4 && eqb address 0) (eqb n 2) e)))
+  where
+    go : (p q r : Bool) → (r ≡ true → u ≡ 256 * get_or ds 0 0 + get_or ds 1 0) →
+        cond p (Data address n) (cond q End (cond r (Base u) Bad))
+        ≡ heading (cond p (data_record address ds) (cond q end_record (cond r (upper_record (256 * get_or ds 0 0 + get_or ds 1 0)) no_record)))
+    go true q r f = ap {B = Heading} (λ m. Data address m) (sym l)
+    go false true r f = refl
+    go false false true f = ap {B = Heading} (λ m. Base m) (f refl)
+    go false false false f = refl
+
+module _ (digits bs : List ℕ) (w : Written digits bs) (long : 10 ≤ length digits) (n : ℕ) (first : n ≡ pair (get_or digits 0 0) (get_or digits 1 0)) where
+  size : length digits ≡ 2 * length bs
+  size = written-length w
+
+  count : n ≡ get_or bs 0 0
+  count = let s = size in first ∙ sym (written-get w 0 (omega arith))
+
+  pub wrong-length : (length digits ≡ 10 + 2 * n → ⊥) → Bad ≡ heading (fields_of bs)
+  wrong-length h = let s = size in let c = count in sym (ap heading (fields-short bs (λ e. h (omega arith))))
+
+  pub wrong-sum : length digits ≡ 10 + 2 * n → (total bs % 256 ≡ 0 → ⊥) → Bad ≡ heading (fields_of bs)
+  wrong-sum h z =
+      let s = size in
+      let c = count in
+      let g : fields_of bs ≡ no_record = fields-long bs n c (omega arith) ∙ rw (ne_eqb (total bs % 256) 0 z) in
+      sym (ap heading g)
+
+  pub right : length digits ≡ 10 + 2 * n → total bs % 256 ≡ 0 → (a b t u : ℕ) →
+      a ≡ pair (get_or digits 2 0) (get_or digits 3 0) → b ≡ pair (get_or digits 4 0) (get_or digits 5 0) → t ≡ pair (get_or digits 6 0) (get_or digits 7 0) →
+      (n ≡ 2 → u ≡ 256 * pair (get_or digits 8 0) (get_or digits 9 0) + pair (get_or digits 10 0) (get_or digits 11 0)) →
+      heading_at t (256 * a + b) n u ≡ heading (fields_of bs)
+  right h z a b t u ea eb et eu =
+      let s = size in
+      let c = count in
+      let fa : a ≡ get_or bs 1 0 = ea ∙ sym (written-get w 1 (omega arith)) in
+      let fb : b ≡ get_or bs 2 0 = eb ∙ sym (written-get w 2 (omega arith)) in
+      let ft : t ≡ get_or bs 3 0 = et ∙ sym (written-get w 3 (omega arith)) in
+      let g : fields_of bs ≡ typed (get_or bs 3 0) (256 * get_or bs 1 0 + get_or bs 2 0) n (take n (drop 4 bs)) = fields-long bs n c (omega arith) ∙ rw (eq-eqb (total bs % 256) 0 z) in
+      rw (fa, fb, ft) (typed-heading (get_or bs 3 0) (256 * get_or bs 1 0 + get_or bs 2 0) n u (take n (drop 4 bs)) (length-data bs n (omega arith))
+      (λ e. eu e ∙ rw (sym (written-get w 4 (omega arith)), sym (written-get w 5 (omega arith))) (data-two bs n e (omega arith)))
+      ∙ ap heading (sym g))
+    where
+      length-data : (bs : List ℕ) (n : ℕ) → length bs ≡ n + 5 → length (take n (drop 4 bs)) ≡ n
+      length-data (x ∷ a ∷ b ∷ t ∷ r) n h = length-take-le n r (omega arith)
+      length-data [] n h = absurd (omega arith)
+      length-data (x ∷ []) n h = absurd (omega arith)
+      length-data (x ∷ a ∷ []) n h = absurd (omega arith)
+      length-data (x ∷ a ∷ b ∷ []) n h = absurd (omega arith)
+
+      data-two : (bs : List ℕ) (n : ℕ) → n ≡ 2 → length bs ≡ n + 5 → 256 * get_or bs 4 0 + get_or bs 5 0 ≡ 256 * get_or (take n (drop 4 bs)) 0 0 + get_or (take n (drop 4 bs)) 1 0
+      data-two (x ∷ a ∷ b ∷ t ∷ p ∷ q ∷ r) n e h = rw e
+      data-two (x ∷ a ∷ b ∷ t ∷ p ∷ []) n e h = absurd (omega arith)
+      data-two (x ∷ a ∷ b ∷ t ∷ []) n e h = absurd (omega arith)
+      data-two [] n e h = absurd (omega arith)
+      data-two (x ∷ []) n e h = absurd (omega arith)
+      data-two (x ∷ a ∷ []) n e h = absurd (omega arith)
+      data-two (x ∷ a ∷ b ∷ []) n e h = absurd (omega arith)
+
+-- too few digits for a record
+pub few : (digits : List ℕ) → length digits < 10 → Bad ≡ heading (bytes_record (pairs digits))
+few digits h = go (pairs digits) refl
+  where
+    go : (p : Option (List ℕ)) → pairs digits ≡ p → Bad ≡ heading (bytes_record p)
+    go none q = refl
+    go (some bs) q = let l = written-length (written digits bs q) in sym (ap heading (fields-short bs (λ e. omega arith)))
+
+-- what was read of digits with a sum, and of those without
+pub read : (digits : List ℕ) (s : ℕ) (h : Heading) → digested 0 (pairs digits) ≡ Sum s → FieldsRead digits s h → h ≡ heading (bytes_record (pairs digits))
+read digits s h e f = go (pairs digits) refl e
+  where
+    go : (p : Option (List ℕ)) → pairs digits ≡ p → digested 0 p ≡ Sum s → h ≡ heading (bytes_record p)
+    go none q e = let z : ◌≡◌ {A = ℕ} 0 1 = cc in absurd (omega arith)
+    go (some bs) q e = let g : (0 + total bs) % 256 ≡ s = cc in f bs q (omega arith)
+
+pub unread : (digits : List ℕ) → digested 0 (pairs digits) ≡ NoHex → Bad ≡ heading (bytes_record (pairs digits))
+unread digits e = go (pairs digits) e
+  where
+    go : (p : Option (List ℕ)) → digested 0 p ≡ NoHex → Bad ≡ heading (bytes_record p)
+    go none e = refl
+    go (some bs) e = let z : ◌≡◌ {A = ℕ} 0 1 = cc in absurd (omega arith)
+
+begins : (line : List ℕ) (n : ℕ) → 0 < n → n ≤ length line → take n line ≡ get_or line 0 0 ∷ take (n - 1) (drop 1 line)
+begins [] n h g = absurd (omega arith)
+begins (c ∷ t) zero h g = absurd (omega arith)
+begins (c ∷ t) (suc m) h g = let e : suc m - 1 ≡ m = omega arith in rw e
+
+-- a line's text, n bytes of it
+module _ (line : List ℕ) (n : ℕ) (text : without_cr line ≡ take n line) where
+  pub no_text : n ≡ 0 → Bad ≡ heading (record_of line)
+  unfolding record_of
+  no_text z = sym (ap (λ (t : List ℕ). heading (colon_record t)) (text ∙ ap (λ (m : ℕ). take m line) z))
+
+  pub no-colon : 0 < n → n ≤ length line → (get_or line 0 0 ≡ 58 → ⊥) → Bad ≡ heading (record_of line)
+  unfolding record_of
+  no-colon more within other = sym (ap (λ (t : List ℕ). heading (colon_record t)) (text ∙ begins line n more within) ∙ rw (ne_eqb (get_or line 0 0) 58 other))
+
+  pub colon : 0 < n → n ≤ length line → get_or line 0 0 ≡ 58 → heading (bytes_record (pairs (take (n - 1) (drop 1 line)))) ≡ heading (record_of line)
+  unfolding record_of
+  colon more within is = sym (ap (λ (t : List ℕ). heading (colon_record t)) (text ∙ begins line n more within) ∙ rw (eq-eqb (get_or line 0 0) 58 is))

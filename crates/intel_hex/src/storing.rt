@@ -1,0 +1,87 @@
+// The bytes of a judged file, stored as words.
+ghost use Rattle.std.specs.Prelude.{◌≡◌, ◌+◌, ◌-◌, ◌*◌, ◌/◌, ◌≤◌, ◌<◌, length, replicate};
+ghost use Rattle.intel_hex.specs.Storing.{put_byte, store_all, pair_bytes, words_after, place_after, RecordFits, ImageFits, Stores};
+
+use crate::place::POWERS;
+use crate::record::{Heading, byte_at, heading_of};
+use crate::scan::line_end;
+
+// Puts a byte at an address.
+fn put_at(words: &mut [u32], a: usize, b: u32)
+    requires { (a < 4 * length words.old) × (b < 256) }
+    ensures { words.new ≡ put_byte words.old a b }
+{
+    let p = POWERS[a % 4];
+    let old = words[a / 4];
+    words[a / 4] = old % p + b * p;
+}
+
+// Puts zero bytes from an address to another.
+fn fill(words: &mut [u32], from: usize, to: usize)
+    requires { (from ≤ to) × (to ≤ 4 * length words.old) }
+    ensures { words.new ≡ store_all words.old from (replicate (to - from) 0) }
+{
+    let mut a = from;
+    while a < to {
+        put_at(words, a, 0);
+        a += 1;
+    }
+}
+
+// Puts the data bytes that digits write behind a record's first four bytes.
+fn store_data(digits: &[u8], n: usize, words: &mut [u32], from: usize)
+    requires { (from + n ≤ 4 * length words.old) × (n + n + 10 ≤ length digits.now) }
+    ensures { words.new ≡ store_all words.old from (pair_bytes digits.now 4 n) }
+{
+    let mut i = 0;
+    while i < n {
+        put_at(words, from + i, byte_at(digits, 4 + i) % 256);
+        i += 1;
+    }
+}
+
+// The upper half of addresses, and the end of the last data record.
+#[derive(Drop)]
+pub struct Place {
+    pub upper: u32,
+    pub top: usize,
+}
+
+// Stores a record.
+fn store_record(line: &[u8], h: Heading, p: Place, words: &mut [u32]) -> Place
+    requires { RecordFits line.now h p words.old }
+    ensures { (result ≡ place_after h p) × (words.new ≡ words_after line.now h p words.old) }
+{
+    match h {
+        Heading::Bad => p,
+        Heading::End => p,
+        Heading::Base(upper) => Place {
+            upper: upper,
+            top: p.top,
+        },
+        Heading::Data(address, n) => {
+            let from = 65536 * (p.upper as usize) + (address as usize);
+            fill(words, p.top, from);
+            store_data(&line[1..], n as usize, words, from);
+            Place {
+                upper: p.upper,
+                top: from + (n as usize),
+            }
+        }
+    }
+}
+
+// Stores the words of a file that was judged good.
+pub fn store(text: &[u8], words: &mut [u32])
+    requires { ImageFits text.now words.old }
+    ensures { Stores text.now words.old words.new }
+{
+    let mut p = Place { upper: 0, top: 0 };
+    let mut at = 0;
+    while at < text.len() {
+        let e = line_end(text, at);
+        let h = heading_of(&text[at..e]);
+        p = store_record(&text[at..e], h, p, words);
+        at = e + 1;
+    }
+}
