@@ -4,7 +4,7 @@ ghost use Rattle.std.proofs.Math.Option.{some};
 ghost use Rattle.answer.specs.Refusal.{memory_bytes, bad_program, bad_registers, bad_memory, bad_mask, bad_length, number_of, refused_or, lengths_number, sizes_number};
 
 // What a call's checks say; Refused carries a number of the table.
-#[derive(Drop)]
+#[derive(Clone, Copy)]
 pub enum Verdict {
     Accepted,
     Refused(u8),

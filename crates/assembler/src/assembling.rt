@@ -11,7 +11,7 @@ use crate::putting::put_words;
 use answer::bad_program;
 
 // How many words there are, or a number and the line that it names.
-#[derive(Drop)]
+#[derive(Clone, Copy)]
 pub enum Assembly {
     Assembled(usize),
     Refused(u8, usize),

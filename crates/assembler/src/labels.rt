@@ -7,7 +7,7 @@ use crate::lines::{labels_in, line_end, words_in};
 use statement::{Line, line_of};
 
 // How many labels and words lines have.
-#[derive(Drop)]
+#[derive(Clone, Copy)]
 pub struct Counts {
     pub labels: usize,
     pub words: usize,

@@ -15,7 +15,7 @@ use statement::{Line, OperandValues, line_of, word_of};
 use token::past_run;
 
 // A pass over the lines, by what it refuses.
-#[derive(Drop)]
+#[derive(Clone, Copy)]
 pub enum Pass {
     Texts,
     Labels,
@@ -23,7 +23,7 @@ pub enum Pass {
 }
 
 // A number and the line that it names.
-#[derive(Drop)]
+#[derive(Clone, Copy)]
 pub enum Verdict {
     Accepted,
     Refused(u8, usize),

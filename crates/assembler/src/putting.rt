@@ -11,7 +11,7 @@ use isa::Writing;
 use statement::{Line, line_of};
 
 // The word of a line, if it has one.
-#[derive(Drop)]
+#[derive(Clone, Copy)]
 pub enum LineWord {
     Is(u32),
     NoWord,

@@ -11,7 +11,7 @@ use isa::CompareOp;
 use ordering::{CompareRow, Kind, Ordering};
 
 // A row of whole numbers as lanes take it: the bias of its kind, and its columns with 16 ones for an outcome that counts as yes, 0 for another.
-#[derive(Drop)]
+#[derive(Clone, Copy)]
 struct Outcomes {
     bias: u32,
     below: u32,

@@ -10,7 +10,7 @@ pub const MEMORY: usize = 128;
 const READ: usize = 4096;
 
 // What is held after some input, and whether to go on: not behind the last byte, nor where an answer could not be written.
-#[derive(Drop)]
+#[derive(Clone, Copy)]
 struct Served {
     held: Held,
     more: bool,

@@ -17,7 +17,7 @@ use text::Argument;
 const IMAGE_OUT: i32 = 4;
 
 // The form that is asked for, and whether counts of turns may be dropped.
-#[derive(Drop)]
+#[derive(Clone, Copy)]
 struct Settings {
     form: Form,
     dropping: bool,

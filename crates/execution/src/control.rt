@@ -10,7 +10,7 @@ use crate::registers;
 use isa::ControlOp;
 
 // What a control register holds, where there is one of that number.
-#[derive(Drop)]
+#[derive(Clone, Copy)]
 pub enum ControlValue {
     Known(u32),
     Unknown,

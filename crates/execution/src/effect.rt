@@ -1,6 +1,6 @@
 // What becomes of a thread by an instruction.
 
-#[derive(Drop)]
+#[derive(Clone, Copy)]
 pub enum Effect {
     // Nothing: the thread goes on.
     Stays,

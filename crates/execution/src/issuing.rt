@@ -40,7 +40,7 @@ fn reach_barrier(
 }
 
 // The record after an issue, and whether a status in it was set: by a trap, an end or a barrier.
-#[derive(Drop)]
+#[derive(Clone, Copy)]
 pub struct Issued {
     pub machine: Machine,
     pub changed: bool,

@@ -7,7 +7,7 @@ ghost use Rattle.vector.specs.Lanes.{splatted};
 use crate::registers;
 
 // A scalar's word, or the number of a vector register: its lanes are read where they are used.
-#[derive(Drop)]
+#[derive(Clone, Copy)]
 pub enum Source {
     Scalar(u32),
     Vector(u32),

@@ -14,7 +14,7 @@ use crate::word::{TermValue, word_term};
 use token::{Place, Token, past_mark, token_at};
 
 // A value and the place behind it.
-#[derive(Drop)]
+#[derive(Clone, Copy)]
 pub enum Parsed {
     Read(Value, usize),
     Malformed,

@@ -8,13 +8,13 @@ use crate::value::Sign;
 use token::{Token, token_at};
 
 // A sign and the place behind it.
-#[derive(Drop)]
+#[derive(Clone, Copy)]
 pub enum SignAt {
     At(Sign, usize),
     NoSign,
 }
 
-#[derive(Drop)]
+#[derive(Clone, Copy)]
 pub struct Lead {
     pub sign: Sign,
     pub next: usize,

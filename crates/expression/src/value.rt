@@ -5,14 +5,14 @@ ghost use Rattle.expression.specs.Value.{plus as Value·plus};
 ghost use Rattle.expression.specs.Reading.{InRange};
 ghost use Rattle.expression.specs.Types.{Known};
 
-#[derive(Drop)]
+#[derive(Clone, Copy)]
 pub enum Sign {
     Plus,
     Minus,
 }
 
 // A number with 2^32 added to it; or one that is too large or stands too deep; or one with a label that is not known.
-#[derive(Drop)]
+#[derive(Clone, Copy)]
 pub enum Value {
     Known(u64),
     TooLarge,

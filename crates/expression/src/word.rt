@@ -10,7 +10,7 @@ ghost use Rattle.expression.specs.Value.{value_term, label_value, bounded, bias}
 use crate::value::{Value, bound};
 use token::{Number, is_label, number_of, past_run};
 
-#[derive(Drop)]
+#[derive(Clone, Copy)]
 pub enum TermValue {
     Is(Value),
     NoTerm,

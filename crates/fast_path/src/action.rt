@@ -1,6 +1,6 @@
 // What the fast path does with a word.
 
-#[derive(Drop)]
+#[derive(Clone, Copy)]
 pub enum Action {
     // The register in bits 23-18 gets a number, and the thread goes on with the next word.
     Write(u32),

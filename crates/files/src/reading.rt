@@ -4,7 +4,7 @@ ghost use Rattle.io.specs.Counts.{IsPrefixLen};
 use crate::complaints::fail;
 
 // How many bytes are at the start of a buffer. A failure has been complained of.
-#[derive(Drop)]
+#[derive(Clone, Copy)]
 pub struct Filled {
     pub size: usize,
     pub failed: bool,

@@ -13,14 +13,14 @@ use machine::Machine;
 use thread_entry::{Status, Thread};
 
 // The eight entries, and whether all of them could be read.
-#[derive(Drop)]
+#[derive(Clone, Copy)]
 pub struct Entries {
     pub read: bool,
     pub threads: [Thread; 8],
 }
 
 // The record, and whether its numbers are in range and it is well formed.
-#[derive(Drop)]
+#[derive(Clone, Copy)]
 pub struct Record {
     pub accepted: bool,
     pub machine: Machine,

@@ -7,7 +7,7 @@ ghost use Rattle.image.specs.Fields.{fields, same_fields, fields_of, checked_thr
 use thread_entry::{Status, Thread};
 
 // The numbers of an entry, 0 where its status does not carry them; every entry has a count of turns.
-#[derive(Drop)]
+#[derive(Clone, Copy)]
 pub struct ThreadFields {
     pub status: u8,
     pub reason: u8,
@@ -17,7 +17,7 @@ pub struct ThreadFields {
 }
 
 // What an entry's numbers are read as.
-#[derive(Drop)]
+#[derive(Clone, Copy)]
 pub enum EntryReading {
     Entry(Thread),
     Refused,

@@ -14,7 +14,7 @@ use image_layout::{Form, KINDS, Shape};
 use machine::Machine;
 
 // The verdict on an image, and the machine record that it holds: the record with every number 0 where it is refused.
-#[derive(Drop)]
+#[derive(Clone, Copy)]
 pub struct Judgement {
     pub verdict: Verdict,
     pub machine: Machine,

@@ -5,7 +5,7 @@ ghost use Rattle.image_layout.specs.Layout.{fixed_of, form_of, thread_row, row_o
 use answer::{BLOCK_RECORD, FIXED_PART, OLD_FIXED_PART};
 
 // The kinds of records. Ti is TH in the old form.
-#[derive(Drop)]
+#[derive(Clone, Copy)]
 pub enum Kind {
     Hd,
     Ti,
@@ -15,7 +15,7 @@ pub enum Kind {
 }
 
 // The place numbers behind a record's mark.
-#[derive(Drop)]
+#[derive(Clone, Copy)]
 pub enum Places {
     Nothing,
     ByThread,
@@ -24,21 +24,21 @@ pub enum Places {
 }
 
 // The forms of an image: the newest, and the one that holds no counts of turns.
-#[derive(Drop)]
+#[derive(Clone, Copy)]
 pub enum Form {
     Newest,
     Old,
 }
 
 // What the layout goes by: the form, and the 64-byte blocks of memory.
-#[derive(Drop)]
+#[derive(Clone, Copy)]
 pub struct Shape {
     pub form: Form,
     pub blocks: u16,
 }
 
 // A kind's mark, its place numbers, how many records there are, and the bytes behind the place numbers of one.
-#[derive(Drop)]
+#[derive(Clone, Copy)]
 pub struct RecordRow {
     pub first: u8,
     pub second: u8,

@@ -16,7 +16,7 @@ pub fn value_of(c: u8) -> u8
 }
 
 // The sum of the bytes that digits write, modulo 256.
-#[derive(Drop)]
+#[derive(Clone, Copy)]
 pub enum Digest {
     Sum(u32),
     NoHex,

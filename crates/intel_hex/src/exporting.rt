@@ -15,7 +15,7 @@ use answer::PROGRAM_WORDS;
 pub const LONGEST: usize = 12 * ((PROGRAM_WORDS + 3) / 4) + 8 * PROGRAM_WORDS + 12;
 
 // How many bytes a text has, or the number that a program is refused with.
-#[derive(Drop)]
+#[derive(Clone, Copy)]
 pub enum Exported {
     Length(usize),
     Refused(u8),

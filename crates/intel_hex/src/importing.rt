@@ -6,7 +6,7 @@ use crate::scan::{Judged, judge};
 use crate::storing::store;
 
 // How many words a file says, or the number that it is refused with and the line, 0 where none is meant.
-#[derive(Drop)]
+#[derive(Clone, Copy)]
 pub enum Imported {
     Words(usize),
     Refused(u8, usize),

@@ -8,7 +8,7 @@ ghost use Rattle.intel_hex.specs.Scan.{heading};
 use crate::digits::{Digest, sum_of, value_of};
 
 // Data at an address, and how many bytes of it; the upper half of addresses; the end.
-#[derive(Drop)]
+#[derive(Clone, Copy)]
 pub enum Heading {
     Bad,
     Data(u32, u32),

@@ -21,14 +21,14 @@ pub fn line_end(text: &[u8], at: usize) -> usize
 }
 
 // The upper half of addresses, the end of the last data record, and whether the end record was there.
-#[derive(Drop)]
+#[derive(Clone, Copy)]
 pub struct Cursor {
     pub upper: u32,
     pub top: usize,
     pub ended: bool,
 }
 
-#[derive(Drop)]
+#[derive(Clone, Copy)]
 pub enum Step {
     Next(Cursor),
     Stopped(u8),
@@ -68,7 +68,7 @@ pub fn advance(c: Cursor, h: Heading) -> Step
 }
 
 // How many bytes a file says, or the number that it is refused with and the line.
-#[derive(Drop)]
+#[derive(Clone, Copy)]
 pub enum Judged {
     Bytes(usize),
     Refused(u8, usize),

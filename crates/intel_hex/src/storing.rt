@@ -41,7 +41,7 @@ fn store_data(digits: &[u8], n: usize, words: &mut [u32], from: usize)
 }
 
 // The upper half of addresses, and the end of the last data record.
-#[derive(Drop)]
+#[derive(Clone, Copy)]
 pub struct Place {
     pub upper: u32,
     pub top: usize,

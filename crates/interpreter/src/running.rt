@@ -66,7 +66,7 @@ fn ended(machine: Machine, running: bool, made: u32, looks: u64) -> Run
 
 // Issues of the fast path in a row: the thread issued last, how many issues are left in the budget, how many entries "last" has passed, and
 // whether the last of them is deferred: chosen and counted, and still to be made, by the slow path.
-#[derive(Drop)]
+#[derive(Clone, Copy)]
 pub struct FastIssues {
     pub last: usize,
     pub left: u32,
@@ -166,7 +166,7 @@ fn make_fast_issues(
 // Issues in a row: the record that they reach, but for its counts of turns, how many issues are left in the budget, how many entries
 // "last" has passed, how many were looked at, whether the last of them changed a status, and, where it did not and nothing more is
 // issued, whether a thread is running: the look that tells so counts too.
-#[derive(Drop)]
+#[derive(Clone, Copy)]
 pub struct Stretch {
     pub machine: Machine,
     pub left: u32,

@@ -1,7 +1,7 @@
 // Operations and instructions, by the format of their words.
 
 // R, and I with an immediate for b: two operands. Those of the float unit, here and below, have no I form.
-#[derive(Drop)]
+#[derive(Clone, Copy)]
 pub enum BinaryOp {
     Or,
     And,
@@ -21,7 +21,7 @@ pub enum BinaryOp {
 }
 
 // R: one operand.
-#[derive(Drop)]
+#[derive(Clone, Copy)]
 pub enum UnaryOp {
     Clz,
     Ctz,
@@ -33,7 +33,7 @@ pub enum UnaryOp {
 }
 
 // R and I: a test of two operands.
-#[derive(Drop)]
+#[derive(Clone, Copy)]
 pub enum CompareOp {
     Eq,
     Ne,
@@ -54,7 +54,7 @@ pub enum CompareOp {
 }
 
 // The operations of R, and of I: the class, and within it which one.
-#[derive(Drop)]
+#[derive(Clone, Copy)]
 pub enum Operation {
     Binary(BinaryOp),
     Unary(UnaryOp),
@@ -64,14 +64,14 @@ pub enum Operation {
 }
 
 // MOVEI: which part of a value the immediate replaces.
-#[derive(Drop)]
+#[derive(Clone, Copy)]
 pub enum MoveiOp {
     Low,
     High,
     Whole,
 }
 
-#[derive(Drop)]
+#[derive(Clone, Copy)]
 pub enum JumpOp {
     Jmp,
     Jmpsr,
@@ -80,14 +80,14 @@ pub enum JumpOp {
     Bnez,
 }
 
-#[derive(Drop)]
+#[derive(Clone, Copy)]
 pub enum ControlOp {
     Barrier,
     Readcr,
     End,
 }
 
-#[derive(Drop)]
+#[derive(Clone, Copy)]
 pub enum LoadOp {
     Load8,
     Load16,
@@ -96,14 +96,14 @@ pub enum LoadOp {
     Load16u,
 }
 
-#[derive(Drop)]
+#[derive(Clone, Copy)]
 pub enum StoreOp {
     Store8,
     Store16,
     Store32,
 }
 
-#[derive(Drop)]
+#[derive(Clone, Copy)]
 pub enum MemoryOp {
     Load(LoadOp),
     Store(StoreOp),
@@ -114,7 +114,7 @@ pub enum MemoryOp {
 // An instruction. Its fields may hold what no word has room for. `flags` are the vector flags of d, a and b (R) or of d and a (I),
 // d highest. A signed number is held modulo 2^32. Every field has one width, so that those of two formats don't share a place in part,
 // and the compiler keeps each in a register.
-#[derive(Drop)]
+#[derive(Clone, Copy)]
 pub enum Instruction {
     R {
         op: Operation,
@@ -155,7 +155,7 @@ pub enum Instruction {
 }
 
 // What a word is read as.
-#[derive(Drop)]
+#[derive(Clone, Copy)]
 pub enum Reading {
     Defined(Instruction),
     Undefined,
@@ -163,7 +163,7 @@ pub enum Reading {
 }
 
 // What an instruction is written as.
-#[derive(Drop)]
+#[derive(Clone, Copy)]
 pub enum Writing {
     Word(u32),
     NoWord,

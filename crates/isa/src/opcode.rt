@@ -11,31 +11,31 @@ use crate::instruction::{
 };
 
 // What an opcode of each format stands for.
-#[derive(Drop)]
+#[derive(Clone, Copy)]
 pub enum ROpcode {
     Listed(Operation),
     NotListed,
 }
 
-#[derive(Drop)]
+#[derive(Clone, Copy)]
 pub enum MoveiOpcode {
     Listed(MoveiOp),
     NotListed,
 }
 
-#[derive(Drop)]
+#[derive(Clone, Copy)]
 pub enum JumpOpcode {
     Listed(JumpOp),
     NotListed,
 }
 
-#[derive(Drop)]
+#[derive(Clone, Copy)]
 pub enum ControlOpcode {
     Listed(ControlOp),
     NotListed,
 }
 
-#[derive(Drop)]
+#[derive(Clone, Copy)]
 pub enum MemoryOpcode {
     Listed(MemoryOp),
     NotListed,

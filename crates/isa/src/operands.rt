@@ -7,7 +7,7 @@ use crate::instruction::{ControlOp, Instruction, JumpOp};
 use crate::rule::{c_allows, j_allows, operand_b};
 
 // What an operand is; Nothing where it is left out.
-#[derive(Drop)]
+#[derive(Clone, Copy)]
 pub enum Slot {
     ARegister,
     AnImmediate,
@@ -15,7 +15,7 @@ pub enum Slot {
     Nothing,
 }
 
-#[derive(Drop)]
+#[derive(Clone, Copy)]
 pub struct Slots {
     pub first: Slot,
     pub second: Slot,

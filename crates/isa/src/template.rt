@@ -11,7 +11,7 @@ use crate::opcode::{
 use crate::rule::has_immediate;
 
 // An instruction with every field 0, if there is one.
-#[derive(Drop)]
+#[derive(Clone, Copy)]
 pub enum Template {
     Is(Instruction),
     NoTemplate,

@@ -6,7 +6,7 @@ use crate::record::Machine;
 use thread_entry::{GREATEST_BARRIER, Status, is_waiting, waits_at, waits_otherwise};
 
 // The record after a meeting, and whether the thread was trapped instead of waiting.
-#[derive(Drop)]
+#[derive(Clone, Copy)]
 pub struct BarrierResult {
     pub trapped: bool,
     pub machine: Machine,

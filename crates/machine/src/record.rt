@@ -5,7 +5,7 @@ ghost use Rattle.machine.specs.Machine.{status_at, with_status_at, trap, end};
 use thread_entry::{Status, Thread};
 
 // A bit of `enabled` for each thread, the thread issued last, and an entry for each thread.
-#[derive(Drop)]
+#[derive(Clone, Copy)]
 pub struct Machine {
     pub enabled: u8,
     pub threads: [Thread; 8],

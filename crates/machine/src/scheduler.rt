@@ -8,14 +8,14 @@ use crate::record::Machine;
 use thread_entry::is_running;
 
 // The thread to issue, and its distance from "last", 1 to 8.
-#[derive(Drop)]
+#[derive(Clone, Copy)]
 pub enum Choice {
     Chosen { thread: usize, distance: usize },
     NoneRunning,
 }
 
 // A choice, with the record in which the chosen thread is "last".
-#[derive(Drop)]
+#[derive(Clone, Copy)]
 pub struct Turn {
     pub choice: Choice,
     pub machine: Machine,

@@ -3,7 +3,7 @@ ghost use Rattle.std.specs.Prelude.{◌≡◌, ◌%◌, ◌≤◌, ◌<◌, ◌^
 ghost use Rattle.memory.specs.Attempt.{of_place};
 ghost use Rattle.memory.specs.Place.{biased, place};
 
-#[derive(Drop)]
+#[derive(Clone, Copy)]
 pub enum Place {
     At(usize),
     Misaligned,

@@ -5,7 +5,7 @@ ghost use Rattle.minute_lines.specs.Parsing.{with_digit, with_byte, reading_in};
 
 // What was read of a line so far: nothing, digits, digits and the mark, or what is no minute whatever follows.
 // A number above 1439 is kept as 1440.
-#[derive(Drop)]
+#[derive(Clone, Copy)]
 pub enum Line {
     Empty,
     Digits(u32),
@@ -14,7 +14,7 @@ pub enum Line {
 }
 
 // What a whole line gives: a minute of the day, and whether a fall-back is marked; or no such number.
-#[derive(Drop)]
+#[derive(Clone, Copy)]
 pub enum Reading {
     Minute(u32, bool),
     NoMinute,

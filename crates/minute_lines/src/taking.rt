@@ -11,7 +11,7 @@ use machine::Machine;
 use night::{Kept, Tick, TickAnswer};
 
 // What the program holds between two bytes, beside the registers and memory.
-#[derive(Drop)]
+#[derive(Clone, Copy)]
 pub struct Held {
     pub machine: Machine,
     pub kept: Kept,
@@ -19,7 +19,7 @@ pub struct Held {
 }
 
 // What it holds then, and how many bytes of text stand at the start of the buffer.
-#[derive(Drop)]
+#[derive(Clone, Copy)]
 pub struct Step {
     pub held: Held,
     pub printed: usize,

@@ -6,14 +6,14 @@ ghost use Rattle.names.specs.Rows.{rows, named};
 use isa::Instruction;
 
 // A name: its bytes from the front, then zeros.
-#[derive(Drop)]
+#[derive(Clone, Copy)]
 pub struct Name {
     pub bytes: [u8; 16],
     pub len: usize,
 }
 
 // A row of the table: the number of the format, the opcode, and the name's length and bytes.
-#[derive(Drop)]
+#[derive(Clone, Copy)]
 pub struct NameRow(pub u8, pub u8, pub usize, pub [u8; 16]);
 
 // How many rows there are.

@@ -8,7 +8,7 @@ use float::{feq, fgt, flt};
 use isa::CompareOp;
 
 // What the operands of a compare stand for: whole numbers without sign, or with it, or floats.
-#[derive(Drop)]
+#[derive(Clone, Copy)]
 pub enum Kind {
     Unsigned,
     Signed,
@@ -16,7 +16,7 @@ pub enum Kind {
 }
 
 // How one operand stands to the other. Where one is a NaN they are unordered.
-#[derive(Drop)]
+#[derive(Clone, Copy)]
 pub enum Ordering {
     Below,
     Equal,
@@ -25,7 +25,7 @@ pub enum Ordering {
 }
 
 // A compare: what its operands stand for, and for each outcome whether it counts as yes.
-#[derive(Drop)]
+#[derive(Clone, Copy)]
 pub struct CompareRow {
     pub kind: Kind,
     pub below: bool,

@@ -10,7 +10,7 @@ use trace_lines::PAGE_LONGEST;
 const LINES_OUT: i32 = 5;
 
 // A run, and whether all its lines were written.
-#[derive(Drop)]
+#[derive(Clone, Copy)]
 pub struct Traced {
     pub run: Run,
     pub printed: bool,

@@ -4,7 +4,7 @@ use text::Argument;
 
 // What a run goes by. A machine that is resumed has its own mask and memory. Of the issues, the first `budget` are made, then `rows` with a
 // line for each, and then `rest`.
-#[derive(Drop)]
+#[derive(Clone, Copy)]
 pub struct Settings {
     pub mask: u32,
     pub memory: u32,

@@ -14,7 +14,7 @@ use isa::{Instruction, Template, slots_of};
 use token::{Place, Token, is_blank, is_label, past_mark, token_at};
 
 // A line: a label's place, or an instruction's name (every field 0) and operands.
-#[derive(Drop)]
+#[derive(Clone, Copy)]
 pub enum Line {
     Malformed,
     Blank,

@@ -17,7 +17,7 @@ use isa::{Slot, Slots};
 use token::{Place, past_mark};
 
 // Operands: registers in their order, how many there are, and the value of the expression.
-#[derive(Drop)]
+#[derive(Clone, Copy)]
 pub struct OperandValues {
     pub first: Register,
     pub second: Register,
@@ -27,7 +27,7 @@ pub struct OperandValues {
 }
 
 // Operands and the place behind them.
-#[derive(Drop)]
+#[derive(Clone, Copy)]
 pub enum OperandsAt {
     Read(OperandValues, usize),
     Malformed,

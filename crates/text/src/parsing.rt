@@ -4,7 +4,7 @@ ghost use Rattle.text.specs.Argument.{given, with_digit};
 ghost use Rattle.text.specs.Argument.{number};
 
 // What an argument is read as.
-#[derive(Drop)]
+#[derive(Clone, Copy)]
 pub enum Argument {
     Number(u32),
     Refused,

@@ -3,7 +3,7 @@ ghost use Rattle.std.specs.Prelude.{◌≡◌};
 ghost use Rattle.thread_entry.specs.Entry.{entry_of, many_more};
 
 // Trapped carries a reason; Waiting carries a barrier id and a count.
-#[derive(Drop)]
+#[derive(Clone, Copy)]
 pub enum Status {
     Idle,
     Running,
@@ -13,7 +13,7 @@ pub enum Status {
 }
 
 // `turns` is how many issues the thread has had since its start, modulo 2^32.
-#[derive(Drop)]
+#[derive(Clone, Copy)]
 pub struct Thread {
     pub status: Status,
     pub turns: u32,
@@ -23,7 +23,7 @@ pub struct Thread {
 pub const GREATEST_BARRIER: u8 = 31;
 
 // The greatest trap reason and the greatest barrier id that a record may hold.
-#[derive(Drop)]
+#[derive(Clone, Copy)]
 pub struct Limits {
     pub reason: u8,
     pub barrier: u8,

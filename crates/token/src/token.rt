@@ -6,14 +6,14 @@ ghost use Rattle.token.specs.Scan.{token_from, place_past};
 use crate::byte::{in_word, is_blank};
 
 // A token: a word from its first byte to behind its last, or a mark and the place behind it.
-#[derive(Drop)]
+#[derive(Clone, Copy)]
 pub enum Token {
     End,
     Word(usize, usize),
     Mark(u8, usize),
 }
 
-#[derive(Drop)]
+#[derive(Clone, Copy)]
 pub enum Place {
     At(usize),
     NoPlace,

@@ -8,7 +8,7 @@ ghost use Rattle.token.specs.Word.{cap, capped, numbered};
 use crate::byte::{digit_of, is_letter};
 
 // A number, 2^31 + 1 for every larger one.
-#[derive(Drop)]
+#[derive(Clone, Copy)]
 pub enum Number {
     Is(u64),
     NoNumber,

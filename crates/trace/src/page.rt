@@ -11,7 +11,7 @@ use machine::Machine;
 pub const PAGE_ROWS: usize = 64;
 
 // A run, and the list of rows that it left.
-#[derive(Drop)]
+#[derive(Clone, Copy)]
 pub struct Page {
     pub run: Run,
     pub rows: [Row; PAGE_ROWS],

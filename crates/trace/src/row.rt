@@ -9,7 +9,7 @@ use machine::{Machine, PROGRAM_COUNTER};
 use thread_entry::Status;
 
 // "thread, address, word (0 where none was fetched), status after"; the status with what it carries.
-#[derive(Drop)]
+#[derive(Clone, Copy)]
 pub struct Row {
     pub thread: u8,
     pub address: u32,

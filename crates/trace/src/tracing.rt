@@ -11,7 +11,7 @@ use machine::Machine;
 
 // How far a traced run is: what the plain run hands back that makes so many issues, the most issues that it may make, and whether it
 // goes on.
-#[derive(Drop)]
+#[derive(Clone, Copy)]
 pub struct Progress {
     pub run: Run,
     pub limit: u32,
@@ -19,7 +19,7 @@ pub struct Progress {
 }
 
 // One issue more, the row for it, and the row's place in the list.
-#[derive(Drop)]
+#[derive(Clone, Copy)]
 pub struct Step {
     pub next: Progress,
     pub at: usize,
