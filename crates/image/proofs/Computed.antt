@@ -8,7 +8,7 @@ use Rattle.image_layout.specs.Join.{concat_below, total, all_below}
 use Rattle.image_layout.specs.Layout.{position_in, order_of, record_of, section_of, start_of, body_at, stands_at, heads_of, heads_in}
 use Rattle.little_endian.specs.Numbers.{number_at, number_bytes, bytes_of}
 use Rattle.image.specs.Fields.{checked_thread, thread_of}
-use Rattle.image.specs.Image.{entry_in_lem, threads_in, machine_in, record_in}
+use Rattle.image.specs.Image.{entry_in, threads_in, machine_in, record_in}
 use Rattle.image.specs.Opening.{record_bytes, opening_number}
 use Rattle.image.specs.Refusal.{no_counts, write_number, read_number_in}
 use Rattle.image.specs.Rows.{BytesHold, WriteOrder, ReadOrder, OpeningOrder}
@@ -38,5 +38,5 @@ unfolding read_number_in first_that_applies heads_in heads_of all_below stands_a
 read-order = record { room = refl; memory = refl; length = refl; marks = refl; old-marks = refl; old-length = refl; neither = refl }
 
 pub opening-order : OpeningOrder
-unfolding opening_number record_bytes number_at number_bytes concat_below section_of record_of first_that_applies heads_of all_below stands_at start_of total order_of position_in record_in entry_in_lem threads_in machine_in body_at thread_of checked_thread well_formed_within numbers_in_range all_threads any_thread count_threads all any count
+unfolding opening_number record_bytes number_at number_bytes concat_below section_of record_of first_that_applies heads_of all_below stands_at start_of total order_of position_in record_in entry_in threads_in machine_in body_at thread_of checked_thread well_formed_within numbers_in_range all_threads any_thread count_threads all any count
 opening-order = record { taken = refl; not-well-formed = refl; not_carried = refl; marked = refl; old-mark = refl; out-of-place = refl }

@@ -15,7 +15,7 @@ use Rattle.image_layout.proofs.Rows.{section-length}
 use Rattle.image_layout.specs.Join.{total, concat_below, all_below}
 use Rattle.image_layout.specs.Layout.{record_kinds, row_of, laid_out, section_of, start_of, heads_up_to}
 use Rattle.image.specs.Claims.{OpensWith}
-use Rattle.image.specs.Image.{shape_of, SuitsUpTo, body_of, image, is_entry, entry_in_lem, machine_in, record_in}
+use Rattle.image.specs.Image.{shape_of, SuitsUpTo, body_of, image, is_entry, entry_in, machine_in, record_in}
 use Rattle.image.specs.Opening.{no_blocks, record_bytes, record_length, opening_number, read_opening}
 use Rattle.image.specs.Refusal.{content_number}
 use Rattle.image.specs.Types.{Hd, Ti, Sr, Vr, Mm, Newest, Machine}
@@ -54,7 +54,7 @@ module _ (l : List ℕ) (h : opening_number l ≡ none) where
 
   pub opening-well-formed : well_formed (machine_in no_blocks l) ≡ true
   unfolding opening_number content_number record_in
-  opening-well-formed = ((and-eq-true_iff (all_below 8 (λ t. is_entry (entry_in_lem no_blocks l t))) (well_formed (machine_in no_blocks l))).0 (content-good (heads_up_to record_kinds no_blocks l) (record_in no_blocks l) h).1).1
+  opening-well-formed = ((and-eq-true_iff (all_below 8 (λ t. is_entry (entry_in no_blocks l t))) (well_formed (machine_in no_blocks l))).0 (content-good (heads_up_to record_kinds no_blocks l) (record_in no_blocks l) h).1).1
 
 -- and an image opens with them
 pub opens-with : OpensWith

@@ -18,7 +18,7 @@ use Rattle.little_endian.proofs.Numbers.{past_end, behind, cut}
 use Rattle.little_endian.specs.Numbers.{number_at}
 use Rattle.image.specs.Fields.{fields, thread_of}
 use Rattle.machine.specs.WellFormed.{well_formed}
-use Rattle.image.specs.Image.{fields_in, is_entry, entry_or, entry_in_lem, threads_in, machine_in, record_in}
+use Rattle.image.specs.Image.{fields_in, is_entry, entry_or, entry_in, threads_in, machine_in, record_in}
 use Rattle.image.specs.Types.{Hd, Ti, Form, Newest, Old, Shape, Kind, Thread, Machine}
 
 -- a byte of a part
@@ -106,12 +106,12 @@ module _ (s : Shape) (k : Kind) where
 abbrev pub entry_at : Form → List ℕ → ℕ → Answer Thread
 entry_at f l p = thread_of (fields_in (take (thread_row f).size (drop p l)))
 
-entry_in_lem : (s : Shape) (l : List ℕ) (t p : ℕ) → p ≡ body_place (row_of s Ti) (start_of s (order_of Ti)) t → entry_at s.form l p ≡ entry_in_lem s l t
-unfolding entry_in_lem body_at
+entry_in_lem : (s : Shape) (l : List ℕ) (t p : ℕ) → p ≡ body_place (row_of s Ti) (start_of s (order_of Ti)) t → entry_at s.form l p ≡ entry_in s l t
+unfolding entry_in body_at
 entry_in_lem s l t p e = ap (entry_at s.form l) e
 
 module _ (s : Shape) (l : List ℕ) (at size : ℕ) (place : (t : ℕ) → at + size * t ≡ body_place (row_of s Ti) (start_of s (order_of Ti)) t) where
-  pub entries-read : all_below 8 (λ t. is_entry (entry_at s.form l (at + size * t))) ≡ all_below 8 (λ t. is_entry (entry_in_lem s l t))
+  pub entries-read : all_below 8 (λ t. is_entry (entry_at s.form l (at + size * t))) ≡ all_below 8 (λ t. is_entry (entry_in s l t))
   entries-read = all_same 8 _ _ (λ t h. ap is_entry (entry_in_lem s l t (at + size * t) (place t)))
 
   entries-same : concat_below 8 (λ t. entry_or (entry_at s.form l (at + size * t)) ∷ []) ≡ threads_in s l
@@ -132,6 +132,6 @@ module _ (s : Shape) (l : List ℕ) (at : ℕ) (place : at ≡ body_place (row_o
       let f : get_or l at 0 ≡ get_or (take 2 (drop p l)) 0 0 = ap (λ z. get_or l z 0) place ∙ sym (part-first l p 2 (omega arith)) in
       (λ i. record { enabled = e i; last = f i; threads = same i })
 
-pub record-read : (s : Shape) (l : List ℕ) (m : Machine) (a b : Bool) → a ≡ all_below 8 (λ t. is_entry (entry_in_lem s l t)) → m ≡ machine_in s l → b ≡ well_formed m → (a && b) ≡ record_in s l
+pub record-read : (s : Shape) (l : List ℕ) (m : Machine) (a b : Bool) → a ≡ all_below 8 (λ t. is_entry (entry_in s l t)) → m ≡ machine_in s l → b ≡ well_formed m → (a && b) ≡ record_in s l
 unfolding record_in
 record-read s l m a b e f g = (λ i. e i && (g ∙ ap well_formed f) i)

@@ -19,7 +19,7 @@ use Rattle.image_layout.proofs.Rows.{whole_length, form-told}
 use Rattle.image_layout.specs.Layout.{fixed_of, form_of, of_blocks, kinds, start_of, heads_in}
 use Rattle.image.specs.Calls.{WriteResult, writing, write_refusal, write_as, ReadResult, reading, read_refusal, read_by, read}
 use Rattle.image.specs.Image.{shape_of, Lengths, image, record_in, state_in}
-use Rattle.image.specs.Refusal.{loses_counts, write_checks, record_number, write_number, content_number, record_checks, records_number, read_number_in, read_number_lem}
+use Rattle.image.specs.Refusal.{loses_counts, write_checks, record_number, write_number, content_number, record_checks, records_number, read_number_in, read_number}
 use Rattle.image.specs.Types.{Form, Shape, Machine}
 
 -- The lengths.

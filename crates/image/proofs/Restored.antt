@@ -24,7 +24,7 @@ use borrow.Author.Tests.{eq-eqb}
 use lib.Dec.{eqb}
 use Rattle.little_endian.specs.Numbers.{number_at, number_bytes, bytes_of, words_of}
 use Rattle.image.specs.Claims.{Words, Bytes}
-use Rattle.image.specs.Image.{field_bytes, body_of, image, fields_in, is_entry, entry_or, entry_in_lem, threads_in, machine_in, words_in, registers_in, memory_in, state_in}
+use Rattle.image.specs.Image.{field_bytes, body_of, image, fields_in, is_entry, entry_or, entry_in, threads_in, machine_in, words_in, registers_in, memory_in, state_in}
 use Rattle.image.specs.Refusal.{no_counts, loses_counts}
 use Rattle.image.specs.Types.{Kind, Hd, Ti, Sr, Vr, Mm, Form, Newest, Old, Shape, Thread}
 use Rattle.image.proofs.Rooms.{room-length, body-size, memory-length}
@@ -66,7 +66,7 @@ the-entry : (o : Answer Thread) → is_entry o ≡ true → o ≡ given (entry_o
 the-entry (given e) h = refl
 the-entry (refused n) h = never h refl
 
-module _ (a : Shape) (l : List ℕ) (long : start_of a kinds ≤ length l) (bytes : Bytes l) (read : all_below 8 (λ t. is_entry (entry_in_lem a l t)) ≡ true) where
+module _ (a : Shape) (l : List ℕ) (long : start_of a kinds ≤ length l) (bytes : Bytes l) (read : all_below 8 (λ t. is_entry (entry_in a l t)) ≡ true) where
   abbrev s : State
   s = state_in a l
 
@@ -75,12 +75,12 @@ module _ (a : Shape) (l : List ℕ) (long : start_of a kinds ≤ length l) (byte
   hd i h = two-of (body_in a l Hd 0) (body-size a l long Hd 0 (omega arith)) ∙ ap (body_in a l Hd) (let z : 0 ≡ i = omega arith in z)
 
   ti : (i : ℕ) → i < 8 → body_of a.form s Ti i ≡ body_in a l Ti i
-  unfolding machine_in threads_in entry_in_lem
+  unfolding machine_in threads_in entry_in
   ti i h =
-      let o = entry_in_lem a l i in
-      let g = the-entry o (all-elim 8 (λ t. is_entry (entry_in_lem a l t)) read i h) in
+      let o = entry_in a l i in
+      let g = the-entry o (all-elim 8 (λ t. is_entry (entry_in a l t)) read i h) in
       let f = (exact (fields_in (body_in a l Ti i)) (entry_or o)).0 g in
-      ap (λ e. field_bytes a.form (fields_of e)) (read-concat_below zero_thread 8 i (λ t. entry_or (entry_in_lem a l t)) h)
+      ap (λ e. field_bytes a.form (fields_of e)) (read-concat_below zero_thread 8 i (λ t. entry_or (entry_in a l t)) h)
       ∙ (ap (field_bytes a.form) f
       ∙ entry-back a.form (body_in a l Ti i) (body-size a l long Ti i (omega (arith, threads a.form))) (body-bound a l bytes Ti i))
 
@@ -183,13 +183,13 @@ map-concat_below g zero f = refl
 map-concat_below g (suc n) f = map-append g (concat_below n (λ i. f i ∷ [])) (f n ∷ []) ∙ ap (λ r. r ++ g (f n) ∷ []) (map-concat_below g n f)
 
 pub counts-bound : (a : Shape) (l : List ℕ) → Bytes l → Words (turns_of (machine_in a l))
-unfolding turns_of machine_in threads_in entry_in_lem
+unfolding turns_of machine_in threads_in entry_in
 counts-bound a l h k =
-    let e : ℕ → Thread = λ t. entry_or (entry_in_lem a l t) in
+    let e : ℕ → Thread = λ t. entry_or (entry_in a l t) in
     rw (map-concat_below (λ x. x.turns) 8 e)
     (concat_below-bound 4294967296 8 (λ t. (e t).turns ∷ []) (omega arith)
     (λ t. one-bound 4294967296 (e t).turns (omega arith)
-    (entry-turns (entry_in_lem a l t) (body_in a l Ti t) refl 4294967296 (omega arith) (word_bound (body_in a l Ti t) 4 (body-bound a l h Ti t)))) k)
+    (entry-turns (entry_in a l t) (body_in a l Ti t) refl 4294967296 (omega arith) (word_bound (body_in a l Ti t) 4 (body-bound a l h Ti t)))) k)
 
 -- "Old images are read with all counts 0.": so that none is lost where the machine is written in the form that it was read in.
 
@@ -198,12 +198,12 @@ module _ (blocks : ℕ) (l : List ℕ) (long : start_of (of_blocks Old blocks) k
   old = of_blocks Old blocks
 
   no-turns : (t : ℕ) → t < 8 → turns_at (machine_in old l) t ≡ 0
-  unfolding machine_in threads_in entry_in_lem
+  unfolding machine_in threads_in entry_in
   no-turns t h =
       let c = body_in old l Ti t in
       let z = past_end 4 c 4 (omega (arith, body-size old l long Ti t h)) in
-      let b = entry-turns (entry_in_lem old l t) c refl 1 (omega arith) (omega (arith, z)) in
-      ap (λ e. e.turns) (read-concat_below zero_thread 8 t (λ t. entry_or (entry_in_lem old l t)) h) ∙ omega (arith, b)
+      let b = entry-turns (entry_in old l t) c refl 1 (omega arith) (omega (arith, z)) in
+      ap (λ e. e.turns) (read-concat_below zero_thread 8 t (λ t. entry_or (entry_in old l t)) h) ∙ omega (arith, b)
 
   no-counts : no_counts (machine_in old l) ≡ true
   unfolding no_counts

@@ -20,7 +20,7 @@ use Rattle.image_layout.specs.Join.{all_below}
 use Rattle.image_layout.specs.Layout.{fixed_of, form_of, of_blocks, heads_in}
 use Rattle.image.specs.Calls.{writing, write_refusal, write_as, write, write_old, reading, read_refusal, read}
 use Rattle.image.specs.Claims.{Words, Bytes, WrittenThenRead, DroppedThenRead, ReadThenWritten, Writable, ImageOf, ReadsExactly, OldToNewToOld}
-use Rattle.image.specs.Image.{shape_of, image, held_record, held, is_entry, entry_in_lem, machine_in, record_in, state_in}
+use Rattle.image.specs.Image.{shape_of, image, held_record, held, is_entry, entry_in, machine_in, record_in, state_in}
 use Rattle.image.specs.Refusal.{no_counts, loses_counts, record_number, records_number, read_number_in}
 use Rattle.image.specs.Types.{Form, Newest, Old, Machine, Thread}
 use Rattle.image.proofs.Refusals.{Sized, sized, sizes-none, long, told, lengths, room-words, words-room, good_length, length-good, record-good, record-none, write-good, write-taken, records-none, records-good, read_number_lem, read-sized, read_taken}
@@ -125,9 +125,9 @@ module _ (l registers memory : List ℕ) (bytes : Bytes l) (h : read_refusal l r
   heads : (heads_in (shape_of f memory) l ≡ true) × (record_in (shape_of f memory) l ≡ true)
   heads = records-good (shape_of f memory) l (read-sized f l (length registers) (length memory) h).1
 
-  entries : (all_below 8 (λ t. is_entry (entry_in_lem (shape_of f memory) l t)) ≡ true) × (well_formed (machine_in (shape_of f memory) l) ≡ true)
+  entries : (all_below 8 (λ t. is_entry (entry_in (shape_of f memory) l t)) ≡ true) × (well_formed (machine_in (shape_of f memory) l) ≡ true)
   unfolding record_in
-  entries = (and-eq-true_iff (all_below 8 (λ t. is_entry (entry_in_lem (shape_of f memory) l t))) (well_formed (machine_in (shape_of f memory) l))).0 heads.1
+  entries = (and-eq-true_iff (all_below 8 (λ t. is_entry (entry_in (shape_of f memory) l t))) (well_formed (machine_in (shape_of f memory) l))).0 heads.1
 
   same_length : length s.memory ≡ length memory
   same_length =

@@ -27,7 +27,7 @@ use Rattle.machine.specs.WellFormed.{well_formed}
 use Rattle.little_endian.proofs.Numbers.{past_end, behind, word_back}
 use Rattle.little_endian.specs.Numbers.{number_at, number_bytes, bytes_of, words_of}
 use Rattle.image.specs.Claims.{Words}
-use Rattle.image.specs.Image.{shape_of, Lengths, status_bytes, field_bytes, body_of, image, held_record, held, fields_in, is_entry, entry_or, entry_in_lem, threads_in, machine_in, record_in, words_in, registers_in, memory_in, state_in}
+use Rattle.image.specs.Image.{shape_of, Lengths, status_bytes, field_bytes, body_of, image, held_record, held, fields_in, is_entry, entry_or, entry_in, threads_in, machine_in, record_in, words_in, registers_in, memory_in, state_in}
 use Rattle.image.specs.Types.{Kind, Hd, Ti, Sr, Vr, Mm, Form, Newest, Old, Shape, Status, Idle, Running, Ended, Trapped, Waiting, Machine, Thread, ThreadFields}
 use Rattle.image.proofs.Bodies.{body-length}
 use Rattle.image.proofs.Words.{words_back}
@@ -81,8 +81,8 @@ module _ (a : Shape) (l : List ℕ) (m : Machine) (h : well_formed m ≡ true) (
   abbrev n : Machine
   n = held_record a.form m
 
-  entry-held : (t : ℕ) → t < 8 → entry_in_lem a l t ≡ given (get_or n.threads t zero_thread)
-  unfolding entry_in_lem
+  entry-held : (t : ℕ) → t < 8 → entry_in a l t ≡ given (get_or n.threads t zero_thread)
+  unfolding entry_in
   entry-held t k =
       let b : (entry t).turns < 2 ^ 32 = rw (← counts-kept.at m t) (counts t) in
       let e : fields_in (body_in a l Ti t) ≡ fields_of (held_entry a.form (entry t)) = ap fields_in (ti t (omega (arith, threads a.form))) ∙ entry_read a.form (entry t) b in
@@ -95,7 +95,7 @@ module _ (a : Shape) (l : List ℕ) (m : Machine) (h : well_formed m ≡ true) (
   unfolding threads_in
   threads-held =
       let eight-held = eight n held-well-formed in
-      concat_below-same 8 (λ t. entry_or (entry_in_lem a l t) ∷ []) (λ t. get_or n.threads (0 + t) zero_thread ∷ [])
+      concat_below-same 8 (λ t. entry_or (entry_in a l t) ∷ []) (λ t. get_or n.threads (0 + t) zero_thread ∷ [])
       (λ t k. ap (λ e. entry_or e ∷ []) (entry-held t k) ∙ ap (λ z. get_or n.threads z zero_thread ∷ []) (let z : t ≡ 0 + t = omega arith in z))
       ∙ (concat_below-read zero_thread 8 0 n.threads (omega (arith, eight-held)) ∙ take_all 8 n.threads (le_of_eq eight-held))
 
@@ -110,8 +110,8 @@ module _ (a : Shape) (l : List ℕ) (m : Machine) (h : well_formed m ≡ true) (
   pub record-held : record_in a l ≡ true
   unfolding record_in
   record-held =
-      two (all_below 8 (λ t. is_entry (entry_in_lem a l t))) (well_formed (machine_in a l))
-      (all-intro 8 (λ t. is_entry (entry_in_lem a l t)) (λ t k. ap is_entry (entry-held t k)))
+      two (all_below 8 (λ t. is_entry (entry_in a l t))) (well_formed (machine_in a l))
+      (all-intro 8 (λ t. is_entry (entry_in a l t)) (λ t k. ap is_entry (entry-held t k)))
       (ap well_formed machine-held ∙ held-well-formed)
 
 -- Words laid out in rows of n, from place p on.

@@ -9,7 +9,7 @@ use Rattle.answer.specs.Answer.{given}
 use Rattle.execution.proofs.Claims.{performs, untouched, recounts, issues as execution-issues}
 use Rattle.execution.specs.Issue.{perform, issue, issue_sets_status}
 use Rattle.thread_entry.specs.Entry.{one_more_turn, many_more}
-use Rattle.machine.specs.Machine.{turns_at_lem}
+use Rattle.machine.specs.Machine.{turns_at}
 use Rattle.machine.specs.Rounds.{after_rounds}
 use Rattle.machine.specs.State.{State, state, counted_in, recounted}
 use Rattle.machine.proofs.Claims.{chooses, issues as machine-issues, counts-kept, counts-unseen, counting, rounds-counted}
@@ -73,7 +73,7 @@ pub issued-sound : (p : List ℕ) (s : State) (t : ℕ) → KeepsRecord (with_la
 unfolding issued
 issued-sound p s t =
     let from = state (with_last s.machine t) s.registers s.memory in
-    counting.keeps (with_last s.machine t) (performed p s t).machine t (performs p from t (turns_at_lem s.machine t))
+    counting.keeps (with_last s.machine t) (performed p s t).machine t (performs p from t (turns_at s.machine t))
 
 pub issued-well-formed : (p : List ℕ) (s : State) (t d : ℕ) → choice s.machine ≡ Chosen t d → well_formed s.machine ≡ true
     → well_formed (issued p s t).machine ≡ true

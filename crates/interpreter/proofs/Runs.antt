@@ -8,7 +8,7 @@ use native.Mathlib.Omega.{arith}
 use lib.ListN.{length}
 use Rattle.answer.specs.Answer.{given, refused}
 use Rattle.execution.proofs.Claims.{lengths}
-use Rattle.machine.specs.Machine.{turns_at_lem}
+use Rattle.machine.specs.Machine.{turns_at}
 use Rattle.machine.specs.State.{State, state}
 use Rattle.machine.specs.Scheduler.{choice, with_last, some_waits}
 use Rattle.machine.specs.WellFormed.{well_formed}
@@ -62,7 +62,7 @@ lengths-kept : (regs bytes : ℕ) (p : List ℕ) → Kept (Sized regs bytes) p
 unfolding Kept issued
 lengths-kept regs bytes p s t d e h =
     let r : State = state (with_last s.machine t) s.registers s.memory in
-    (lengths.of-registers p r t (turns_at_lem s.machine t) ∙ h.0, lengths.of-memory p r t (turns_at_lem s.machine t) ∙ h.1)
+    (lengths.of-registers p r t (turns_at s.machine t) ∙ h.0, lengths.of-memory p r t (turns_at s.machine t) ∙ h.1)
 
 pub stays-well-formed : StaysWellFormed
 stays-well-formed p b s h = run-keeps (λ x. well_formed x.machine ≡ true) p (well-formed-kept p) b s h

@@ -10,7 +10,7 @@ use lib.Seq.{get_or-set_same, get_or-set_other}
 use Rattle.answer.specs.Answer.{given, refused}
 use Rattle.machine.proofs.Claims.{started}
 use Rattle.thread_entry.specs.Entry.{zero_thread}
-use Rattle.machine.specs.Machine.{turns_at_lem, zeroed, start as start_record}
+use Rattle.machine.specs.Machine.{turns_at, zeroed, start as start_record}
 use Rattle.interpreter.specs.Claims.{Starts, StartsUncounted, StartRegisters}
 use Rattle.answer.specs.Refusal.{refused_or}
 use Rattle.interpreter.specs.Refusal.{start_number}
@@ -44,7 +44,7 @@ zero-entries zero t = refl
 zero-entries (suc n) zero = refl
 zero-entries (suc n) (suc t) = zero-entries n t
 
-started-entries : (mask t : ℕ) → turns_at_lem (start_record mask) t ≡ 0
+started-entries : (mask t : ℕ) → turns_at (start_record mask) t ≡ 0
 unfolding start_record
 started-entries mask t =
     sym (get_or-map (λ (e : Thread). e.turns) (start_record mask).threads t zero_thread)
@@ -56,7 +56,7 @@ unfolding start
 starts-uncounted mask regs t = go (start_number mask (length regs))
   where
     go : (o : Option ℕ)
-        → turns_at_lem (refused_or {A = Beginning} o (λ n. record { answer = refused n; machine = zeroed; registers = regs })
+        → turns_at (refused_or {A = Beginning} o (λ n. record { answer = refused n; machine = zeroed; registers = regs })
         (record { answer = given tt; machine = start_record mask; registers = with_masks 8 (zeroes regs) })).machine t ≡ 0
     go none = started-entries mask t
     go (some n) = zero-entries 8 t

@@ -9,7 +9,7 @@ use lib.Count.{count_trailing_zeros}
 use lib.Dec.{ltb}
 use Rattle.machine.specs.Claims.{FirstAfterLast, Chooses, ChoosesNone, Turned}
 use Rattle.machine.specs.Machine.{thread_numbers}
-use Rattle.machine.specs.Scheduler.{runs, after, distances, chosen_at_lem, choice, after_choice, choose}
+use Rattle.machine.specs.Scheduler.{runs, after, distances, chosen_at, choice, after_choice, choose}
 use Rattle.machine.specs.Search.{first, mask_of}
 use Rattle.machine.specs.Types.{Machine, Chosen, NoneRunning, Turn}
 use Rattle.machine.proofs.Loops.{from}
@@ -20,9 +20,9 @@ abbrev pub runs_after : Machine → ℕ → Bool
 runs_after m distance = runs m (after m distance)
 
 -- the choice by the search through the distances
-pub choice-at : (m : Machine) {found : Option ℕ} → first (runs_after m) (from 1 8) ≡ found → choice m ≡ chosen_at_lem m found
+pub choice-at : (m : Machine) {found : Option ℕ} → first (runs_after m) (from 1 8) ≡ found → choice m ≡ chosen_at m found
 unfolding choice from
-choice-at m e = ap (chosen_at_lem m) e
+choice-at m e = ap (chosen_at m) e
 
 -- no thread runs exactly if none does at any distance
 pub none_after : (m : Machine) → Nowhere (runs m) 0 8 → Nowhere (runs_after m) 1 8
@@ -79,14 +79,14 @@ one_set m h =
 -- The claims.
 
 -- what the search found, by what is chosen
-was-found : (m : Machine) (t d : ℕ) (r : Option ℕ) → chosen_at_lem m r ≡ Chosen t d → (r ≡ some d) × (t ≡ after m d)
+was-found : (m : Machine) (t d : ℕ) (r : Option ℕ) → chosen_at m r ≡ Chosen t d → (r ≡ some d) × (t ≡ after m d)
 was-found m t d none h = absurd (let z : ◌≡◌ {A = ℕ} 0 1 = cc in omega arith)
 was-found m t d (some k) h =
     let e : k ≡ d = cc in
     let f : after m k ≡ t = cc in
     (ap some e, sym f ∙ ap (after m) e)
 
-none_found : (m : Machine) (r : Option ℕ) → chosen_at_lem m r ≡ NoneRunning → r ≡ none
+none_found : (m : Machine) (r : Option ℕ) → chosen_at m r ≡ NoneRunning → r ≡ none
 none_found m none h = refl
 none_found m (some k) h = absurd (let z : ◌≡◌ {A = ℕ} 0 1 = cc in omega arith)
 

@@ -12,8 +12,8 @@ use lib.Seq.{map-set_same, get_or-set_same, get_or-set_other}
 use Rattle.machine.specs.Barrier.{released, release, release_if_met, arrive, refuses_barrier, reach_barrier}
 use Rattle.machine.specs.Claims.{CountsKept, CountsUnseen, CountsApart, Counting}
 use Rattle.thread_entry.specs.Entry.{zero_thread, with_status, with_count, one_more_turn}
-use Rattle.machine.specs.Machine.{any_thread, count_threads, status_at, turns_at_lem, with_status_at, counted, turns_of, with_counts, with_turns, trap}
-use Rattle.machine.specs.Scheduler.{runs, after, distances, chosen_at_lem, choice, some_waits}
+use Rattle.machine.specs.Machine.{any_thread, count_threads, status_at, turns_at, with_status_at, counted, turns_of, with_counts, with_turns, trap}
+use Rattle.machine.specs.Scheduler.{runs, after, distances, chosen_at, choice, some_waits}
 use Rattle.machine.specs.Search.{first}
 use Rattle.thread_entry.specs.Status.{limits, is_running, is_waiting, waits_at, waits_otherwise}
 use Rattle.machine.specs.Types.{Status, Idle, Trapped, Waiting, Thread, Machine, BarrierResult}
@@ -27,7 +27,7 @@ pub turns-length : (m : Machine) → length (turns_of m) ≡ length m.threads
 unfolding turns_of
 turns-length m = length-map m.threads (λ entry. entry.turns)
 
-pub turns_at_lem : (m : Machine) (t : ℕ) → get_or (turns_of m) t 0 ≡ turns_at_lem m t
+pub turns_at_lem : (m : Machine) (t : ℕ) → get_or (turns_of m) t 0 ≡ turns_at m t
 unfolding turns_of
 turns_at_lem m t = get_or-map (λ entry. entry.turns) m.threads t zero_thread
 
@@ -102,7 +102,7 @@ module _ (m : Machine) (ns : List ℕ) where
   status : (t : ℕ) → status_at (with_turns m ns) t ≡ status_at m t
   status t = put-status m.threads ns t
 
-  chosen_at_lem : (d : Option ℕ) → chosen_at_lem (with_turns m ns) d ≡ chosen_at_lem m d
+  chosen_at_lem : (d : Option ℕ) → chosen_at (with_turns m ns) d ≡ chosen_at m d
   chosen_at_lem none = refl
   chosen_at_lem (some d) = refl
 
@@ -110,7 +110,7 @@ module _ (m : Machine) (ns : List ℕ) where
   unfolding choice
   chosen =
       chosen_at_lem (first (λ d. runs (with_turns m ns) (after m d)) distances)
-      ∙ (λ i. chosen_at_lem m (first (λ d. is_running (status (after m d) i)) distances))
+      ∙ (λ i. chosen_at m (first (λ d. is_running (status (after m d) i)) distances))
 
   some-waits : some_waits (with_turns m ns) ≡ some_waits m
   unfolding some_waits

@@ -16,7 +16,7 @@ use Rattle.statement.specs.Types.{Register, Slot, ARegister, AnImmediate, AnAddr
 use Rattle.statement.specs.Mnemonic.{is_operand}
 use Rattle.statement.specs.Register.{register_at, bracket_at}
 use Rattle.statement.specs.Operand.{Operands, with_register, with_expression, register_on, expression_on, address_on, separated, operand_in, operand_next, operand_on, operands_at, no-operands}
-use Rattle.statement.specs.Field.{operand_values_of, no_operand_values, put, register_field, value_field, address_field, field_in_lem, parted, field_next_lem, field_on, operands_evaluated}
+use Rattle.statement.specs.Field.{operand_values_of, no_operand_values, put, register_field, value_field, address_field, field_in, parted, field_next, field_on, operands_evaluated}
 
 put_in : (a : List ℕ → Option ℕ) (rs : List Register) (e : Option Expression) (r : Register) → put (operand_values_of a (record { registers = rs; expression = e })) r ≡ operand_values_of a (with_register (record { registers = rs; expression = e }) r)
 unfolding put
@@ -41,7 +41,7 @@ address-field a os (some r) q = rw (put_is a os r.value)
 address-field a os none none = refl
 address-field a os none (some e) = register-field a (with_expression os e.value) (bracket_at e.rest)
 
-field_in_lem : (a : List ℕ → Option ℕ) (s : Slot) (os : Operands) (o : Option (List Token)) → field_in_lem a s (operand_values_of a os) o ≡ operands_evaluated a (operand_in s os o)
+field_in_lem : (a : List ℕ → Option ℕ) (s : Slot) (os : Operands) (o : Option (List Token)) → field_in a s (operand_values_of a os) o ≡ operands_evaluated a (operand_in s os o)
 field_in_lem a s os none = refl
 field_in_lem a ARegister os (some ts) = register-field a os (register_at ts)
 field_in_lem a AnImmediate os (some ts) = value-field a os (expression_at ts)
@@ -56,11 +56,11 @@ parted-in a (x ∷ y ∷ z ∷ rs) e ts =
     let n : suc (suc (suc (length rs))) ≡ 0 → ⊥ = λ q. omega arith in
     rw (ne_eqb (suc (suc (suc (length rs)))) 0 n)
 
-field_next_lem : (a : List ℕ → Option ℕ) (s : Slot) (o : Option (Parse Operands)) → field_next_lem a s (operands_evaluated a o) ≡ operands_evaluated a (operand_next s o)
+field_next_lem : (a : List ℕ → Option ℕ) (s : Slot) (o : Option (Parse Operands)) → field_next a s (operands_evaluated a o) ≡ operands_evaluated a (operand_next s o)
 field_next_lem a s none = refl
-field_next_lem a s (some f) = ap (λ p. field_in_lem a s (operand_values_of a f.value) p) (parted-in a f.value.registers f.value.expression f.rest) ∙ field_in_lem a s f.value (separated f.value f.rest)
+field_next_lem a s (some f) = ap (λ p. field_in a s (operand_values_of a f.value) p) (parted-in a f.value.registers f.value.expression f.rest) ∙ field_in_lem a s f.value (separated f.value f.rest)
 
-on-by : (a : List ℕ → Option ℕ) (s : Slot) (o : Option (Parse Operands)) (b : Bool) → cond b (field_next_lem a s (operands_evaluated a o)) (operands_evaluated a o) ≡ operands_evaluated a (cond b (operand_next s o) o)
+on-by : (a : List ℕ → Option ℕ) (s : Slot) (o : Option (Parse Operands)) (b : Bool) → cond b (field_next a s (operands_evaluated a o)) (operands_evaluated a o) ≡ operands_evaluated a (cond b (operand_next s o) o)
 on-by a s o true = field_next_lem a s o
 on-by a s o false = refl
 

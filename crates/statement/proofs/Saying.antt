@@ -13,7 +13,7 @@ use Rattle.statement.specs.Types.{OperandValues}
 use Rattle.statement.specs.Mnemonic.{slots, has_operands}
 use Rattle.statement.specs.Operand.{Operands}
 use Rattle.statement.specs.Field.{operand_values_of, operands_evaluated}
-use Rattle.statement.specs.Line.{ended, instruction_by, label_line, uncommented, word_end_lem}
+use Rattle.statement.specs.Line.{ended, instruction_by, label_line, uncommented, word_end}
 use Rattle.statement.specs.Evaluation.{label, code, evaluated_line, line_value, LabelInside}
 use Rattle.statement.specs.declared.lines.Line.{Line as Line-as-Line}
 use Rattle.statement.specs.declared.lines.Line.TheVariants.{Malformed, Blank, Label, Code}
@@ -65,7 +65,7 @@ module _ (a : List ℕ → Option ℕ) (w : List ℕ) where
   label-more t ts us e = rw e
 
 -- where a line's first word ends
-pub word_end_lem : (l : List ℕ) (s e : ℕ) → s ≡ 0 + leading_blanks l → e ≡ s + length (leading_word (drop s l)) → word_end_lem l ≡ e
+pub word_end_lem : (l : List ℕ) (s e : ℕ) → s ≡ 0 + leading_blanks l → e ≡ s + length (leading_word (drop s l)) → word_end l ≡ e
 word_end_lem l s e h q =
     let k : leading_blanks l ≡ s = omega arith in
     ap (λ i. i + length (leading_word (drop i l))) k ∙ sym q

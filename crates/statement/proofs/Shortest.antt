@@ -19,7 +19,7 @@ use Rattle.expression.specs.Label.{same}
 use Rattle.token.proofs.Runs.{skipped, behind-blanks, none_left, a-mark, a_word, run_fits}
 use Rattle.statement.specs.Mnemonic.{with_immediate, nameable, named_in, named, slots, has_operands}
 use Rattle.statement.specs.Operand.{Operands, operands_at}
-use Rattle.statement.specs.Line.{blank, label, instruction, uncommented, ended, instruction_by, named_line, label_line, by_colon, token_line, word_end_lem, is_spaced, code_line, line_of}
+use Rattle.statement.specs.Line.{blank, label, instruction, uncommented, ended, instruction_by, named_line, label_line, by_colon, token_line, word_end, is_spaced, code_line, line_of}
 use Rattle.statement.specs.Meaning.{bit}
 use Rattle.statement.specs.Claims.{Shortest}
 use Rattle.statement.proofs.Claims.{same_true}
@@ -104,7 +104,7 @@ long-enough t w i ts true e n h s =
     let f = first_word t w ts h in
     let k : 3 ≤ length w + bit true = rw e at (named-enough w i nameable every-name n) in
     let o : is_spaced t || false ≡ true = rw e at s in
-    let l = blank-by t (word_end_lem t) (ltb (word_end_lem t) (length t)) refl (or-false (is_spaced t) o) in omega arith
+    let l = blank-by t (word_end t) (ltb (word_end t) (length t)) refl (or-false (is_spaced t) o) in omega arith
   where
     or-false : (b : Bool) → b || false ≡ true → b ≡ true
     or-false true h = refl

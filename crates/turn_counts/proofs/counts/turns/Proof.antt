@@ -7,7 +7,7 @@ use native.Mathlib.Omega.{arith}
 use borrow.Author.Rules.{rules}
 use lib.ListN.{length, length-map, length-set, take, set}
 use lib.Seq.{take_all, take-suc, take-suc-set}
-use Rattle.machine.specs.Machine.{turns_at_lem, turns_of}
+use Rattle.machine.specs.Machine.{turns_at, turns_of}
 use Rattle.machine.specs.declared.record.Machine.{Machine}
 use Rattle.machine.proofs.Turns.{turns-length, turns_at_lem}
 use Rattle.turn_counts.proofs.counts.turns.Statement.{statement}
@@ -15,10 +15,10 @@ use Rattle.turn_counts.proofs.counts.turns.Tie as tie
 
 -- one count more
 filled : (m : Machine) (r : List ℕ) (t : ℕ) → t < length r → t < length m.threads → take t r ≡ take t (turns_of m)
-    → take (t + 1) (set r t (turns_at_lem m t)) ≡ take (t + 1) (turns_of m)
+    → take (t + 1) (set r t (turns_at m t)) ≡ take (t + 1) (turns_of m)
 filled m r t l k e =
     rw (add-one t)
-    (take-suc-set r t (turns_at_lem m t) l
+    (take-suc-set r t (turns_at m t) l
     ∙ ((λ i. e i ++ sym (turns_at_lem m t) i ∷ [])
     ∙ sym (take-suc (turns_of m) t 0 (omega (arith, turns-length m)))))
 
@@ -38,7 +38,7 @@ loop-again c =
     let m = c.before.before.before.args.t1 in
     let eight : length m.threads ≡ 8 = sym (length-map m.threads _) ∙ c.before.before.before.well-formed.0.1.1.1.0.1.0.1 in
     let more = filled m l.turns l.read (omega (arith, l.invariant.1)) (omega (arith, eight)) l.invariant.2 in
-    (omega arith, length-set l.turns l.read (turns_at_lem m l.read) ∙ l.invariant.1, more)
+    (omega arith, length-set l.turns l.read (turns_at m l.read) ∙ l.invariant.1, more)
 
 returns : tie.Need-returns invariant-loop decreases-loop
 returns c =
