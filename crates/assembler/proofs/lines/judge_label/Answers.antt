@@ -1,0 +1,55 @@
+-- `judge_label` meets its contract.
+use Rattle.assembler.proofs.Tables.{address_is, unknown-is, known_is, name-beyond, name-again, name_new, text-word, so-many}
+use Rattle.assembler.specs.Walk.{entries}
+use Rattle.assembler.specs.Source.{is_known}
+use Rattle.assembler.specs.Types.{Unknown}
+use Rattle.token.proofs.Runs.{run_fits}
+use Rattle.expression.specs.Value.{label_value}
+use Rattle.token.specs.Token.{leading_word}
+use Rattle.expression.specs.Label.{address_in}
+use lib.Seq.{length-take-le}
+use lib.ListN.{take, drop}
+use mathlib.Core.Path.{◌≡◌, sym, ap, ◌∙◌}
+use Prim.Native.Nat.{◌*◌}
+use native.Mathlib.Omega.{arith}
+use Rattle.assembler.proofs.lines.judge_label.Goals as goal
+
+pub returns-then-n-ge256 : goal.returns-then-n-ge256
+returns-then-n-ge256 c =
+    let x = c.args in
+    let s = x.source.now in
+    let t = x.labels.now in
+    sym (name-beyond (entries s (take (2 * x.n) t)) (leading_word (drop x.start x.text.now)) (omega (arith, so-many s t x.n c.requires.0)))
+
+pub slice_bounds-value_of_label-end : goal.slice_bounds-value_of_label-end
+slice_bounds-value_of_label-end c = sym (length-take-le _ c.args.labels.now c.requires.0)
+
+pub slice_bounds-value_of_label-end-2 : goal.slice_bounds-value_of_label-end-2
+slice_bounds-value_of_label-end-2 c = omega (arith, c.past_run-stop.ensures, run_fits c.args.text.now c.args.start c.requires.1)
+
+pub returns-in-Known : goal.returns-in-Known
+returns-in-Known c =
+    let x = c.args in
+    let s = x.source.now in
+    let t = take (2 * x.n) x.labels.now in
+    let w = leading_word (drop x.start x.text.now) in
+    let v = c.value_of_label-known.ensures ∙ ap (λ y. label_value (address_in s t y)) (text-word x.text.now x.start c.past_run-stop.result c.past_run-stop.ensures) in
+    sym (name-again (entries s t) w (ap is_known (sym (address_is s t w)) ∙ known_is (address_in s t w) _ (rw c.in-Known.is) v))
+
+pub returns-in-TooLarge : goal.returns-in-TooLarge
+returns-in-TooLarge c =
+    let x = c.args in
+    let s = x.source.now in
+    let t = take (2 * x.n) x.labels.now in
+    let w = leading_word (drop x.start x.text.now) in
+    let v = c.value_of_label-known.ensures ∙ ap (λ y. label_value (address_in s t y)) (text-word x.text.now x.start c.past_run-stop.result c.past_run-stop.ensures) in
+    sym (name-again (entries s t) w (ap is_known (sym (address_is s t w)) ∙ known_is (address_in s t w) _ (rw c.in-TooLarge.is) v))
+
+pub returns-in-Unknown : goal.returns-in-Unknown
+returns-in-Unknown c =
+    let x = c.args in
+    let s = x.source.now in
+    let t = take (2 * x.n) x.labels.now in
+    let w = leading_word (drop x.start x.text.now) in
+    let v : Unknown ≡ label_value (address_in s t w) = sym c.in-Unknown.is ∙ c.value_of_label-known.ensures ∙ ap (λ y. label_value (address_in s t y)) (text-word x.text.now x.start c.past_run-stop.result c.past_run-stop.ensures) in
+    sym (name_new (entries s t) w (ap is_known (sym (address_is s t w)) ∙ unknown-is (address_in s t w) v) (omega (arith, so-many s x.labels.now x.n c.requires.0)))

@@ -1,0 +1,7 @@
+-- `put_number` meets its contract.
+use mathlib.Core.Path.{sym}
+use lib.Seq.{set_out}
+use Rattle.capi_trace.proofs.numbers.put_number.Goals as goal
+
+pub returns-else-at-numbers : goal.returns-else-at-numbers
+returns-else-at-numbers c = sym (set_out _ _ _ c.if-at-numbers.false)

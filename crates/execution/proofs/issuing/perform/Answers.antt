@@ -1,0 +1,64 @@
+-- `issuing::perform` meets its contract: by the test of the program counter, then by the effect of the word.
+use Rattle.std.proofs.Common.{length, sym, ◌∙◌, arith, rules}
+use borrow.Author.Tests.{not-true, not-false}
+use Rattle.machine.specs.State.{state}
+use Rattle.execution.proofs.Issues.{performs-outside, performs-word}
+use Rattle.execution.proofs.Targets.{before-end}
+use Rattle.execution.proofs.issuing.perform.Goals as goal
+
+-- no word stands there
+pub returns-then-not-in_program : goal.returns-then-not-in_program
+returns-then-not-in_program c =
+    let test = c.in_program in
+    let pc = c.scalar-pc in
+    let a = c.args in
+    rw c.trap.ensures
+    (performs-outside a.program.now (state a.machine a.registers.now a.memory.now) a.t a.turns pc.result pc.ensures
+    (sym test.ensures ∙ not-true test.result c.if-not-in_program.true))
+
+pub bounds-program-pc : goal.bounds-program-pc
+bounds-program-pc c =
+    let test = c.in_program in
+    omega (
+      arith,
+      before-end (length c.args.program.now) c.scalar-pc.result
+          (sym test.ensures ∙ not-false test.result c.if-not-in_program.false),
+    )
+
+pub word-effect-requires : goal.word-effect-requires
+word-effect-requires c =
+    let test = c.in_program in
+    let pc = c.scalar-pc in (
+      search rules,
+      search rules,
+      omega (
+        arith,
+        c.requires.1,
+        before-end (length c.args.program.now) pc.result
+            (sym test.ensures ∙ not-false test.result c.if-not-in_program.false),
+      ),
+    )
+
+pub settle-requires : goal.settle-requires
+settle-requires c =
+    let test = c.in_program in
+    let pc = c.scalar-pc in (
+      search rules,
+      omega (
+        arith,
+        c.requires.1,
+        before-end (length c.args.program.now) pc.result
+            (sym test.ensures ∙ not-false test.result c.if-not-in_program.false),
+      ),
+    )
+
+-- a word is executed
+pub returns : goal.returns
+returns c =
+    let w = c.word-effect in
+    let test = c.in_program in
+    let pc = c.scalar-pc in
+    let a = c.args in
+    performs-word a.program.now (state a.machine a.registers.now a.memory.now) a.t a.turns pc.result pc.ensures
+    (sym test.ensures ∙ not-false test.result c.if-not-in_program.false)
+    _ w.ensures c.settle.result _ c.settle.ensures

@@ -1,0 +1,16 @@
+-- `family::compare_r` meets its contract.
+use Rattle.std.proofs.Common.{sym, ◌∙◌}
+use Rattle.fast_path.proofs.Families.{compare-R}
+use Rattle.fast_path.proofs.family.compare_r.Goals as goal
+
+pub returns : goal.returns
+returns c memory pc enabled words turns =
+    let a = c.args in
+    let low = sym c.flags_r.ensures ∙ c.if-flags_r-ne0.false in
+    rw (
+      c.number.ensures,
+      c.compare.ensures,
+      c.operand_b-y.ensures,
+      c.operand_a-x.ensures,
+    )
+    (compare-R a.t a.regs.now a.w a.op c.requires.1 low memory pc enabled words turns)

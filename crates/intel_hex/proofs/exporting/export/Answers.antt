@@ -1,0 +1,68 @@
+-- `export` meets its contract: by the program's length, the buffer's, or the records and the end.
+use Prim.Native.Nat.{◌+◌, ◌/◌}
+use mathlib.Core.Path.{sym, ◌∙◌}
+use native.Mathlib.Omega.{arith}
+use lib.ListN.{length}
+use Rattle.text.proofs.Placing.{length-wrote, next}
+use Rattle.program.proofs.Sizes.{allowed}
+use Rattle.intel_hex.specs.Export.{record_text, body, export_text}
+use Rattle.intel_hex.specs.Program.{program_bytes}
+use Rattle.intel_hex.proofs.Bodies.{length-body, no_program, no_room, whole-text}
+use borrow.Author.Rules.{rules}
+use Rattle.intel_hex.proofs.exporting.export.Goals as goal
+
+pub bad_program-refused-requires : goal.bad_program-refused-requires
+bad_program-refused-requires c = search rules
+
+pub returns-then-refused : goal.returns-then-refused
+returns-then-refused c = no_program c.args.words.now c.args.text.now (sym c.bad_program-refused.ensures ∙ c.if-refused.true)
+
+pub overflow_add-n : goal.overflow_add-n
+overflow_add-n c = search rules
+
+pub overflow_mul-n : goal.overflow_mul-n
+overflow_mul-n c = search rules
+
+pub overflow_mul-n-2 : goal.overflow_mul-n-2
+overflow_mul-n-2 c = search rules
+
+pub overflow_add-n-2 : goal.overflow_add-n-2
+overflow_add-n-2 c = omega (arith, allowed (length c.args.words.now) (sym c.bad_program-refused.ensures ∙ c.if-refused.false))
+
+pub overflow_add-n-3 : goal.overflow_add-n-3
+overflow_add-n-3 c = omega (arith, allowed (length c.args.words.now) (sym c.bad_program-refused.ensures ∙ c.if-refused.false))
+
+pub returns-then-text-n : goal.returns-then-text-n
+returns-then-text-n c =
+    let x = c.args in
+    no_room x.words.now x.text.now (sym c.bad_program-refused.ensures ∙ c.if-refused.false) c.if-text-n.true
+
+pub put_body-p-requires : goal.put_body-p-requires
+put_body-p-requires c =
+    (omega (arith, allowed (length c.args.words.now) (sym c.bad_program-refused.ensures ∙ c.if-refused.false)), omega arith)
+
+pub put_record-p-requires : goal.put_record-p-requires
+put_record-p-requires c =
+    let x = c.args in
+    let b = c.put_body-p in
+    let ws = x.words.now in
+    let k = (length ws + 3) / 4 in
+    let l = length-body ws k (omega arith) in
+    let w = length-wrote x.text.now 0 (body (program_bytes ws) k) b.result b.new.1.0 (omega arith) b.ensures in
+    (omega arith, omega (arith, w.0, w.1), omega arith, omega arith, omega arith)
+
+pub shape_of-text : goal.shape_of-text
+shape_of-text c = search rules
+
+pub returns : goal.returns
+unfolding export_text
+returns c =
+    let x = c.args in
+    let b = c.put_body-p in
+    let q = c.put_record-p in
+    let ws = x.words.now in
+    let o = x.text.now in
+    let k = (length ws + 3) / 4 in
+    let l = length-body ws k (omega arith) in
+    let e = next o 0 (body (program_bytes ws) k) (omega arith) (record_text 1 0 []) b.result b.new.1.0 q.result q.new.1.1.1.1.0 b.ensures q.ensures in
+    whole-text ws o q.result q.new.1.1.1.1.0 (sym c.bad_program-refused.ensures ∙ c.if-refused.false) c.if-text-n.false e

@@ -1,0 +1,8 @@
+-- `tail_of` meets its contract, digit by digit.
+use native.Mathlib.Nat.{mod-eq_of_lt}
+use Rattle.intel_hex.specs.Digits.{hexes}
+use Rattle.intel_hex.proofs.exporting.tail_of.Goals as goal
+
+pub returns : goal.returns
+unfolding hexes
+returns c = rw (c.digit_of-2.ensures, c.digit_of.ensures, mod-eq_of_lt c.requires)

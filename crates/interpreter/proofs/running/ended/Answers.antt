@@ -1,0 +1,8 @@
+-- `running::ended` meets its contract.
+use mathlib.Core.Path.{refl}
+use Rattle.interpreter.specs.Choosing.{idle_ending}
+use Rattle.interpreter.proofs.running.ended.Goals as goal
+
+pub returns : goal.returns
+unfolding idle_ending
+returns c = (rw (← c.some_waits-waits.ensures) c.answer_of.ensures, refl, refl, refl)

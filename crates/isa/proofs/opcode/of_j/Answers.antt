@@ -1,0 +1,28 @@
+-- `of_j` meets its contract: by the arm that was taken.
+use Rattle.isa.proofs.Lookup.{absent}
+use Rattle.isa.specs.Table.{find, table_j, row_j}
+use Rattle.isa.proofs.opcode.of_j.Goals as goal
+
+pub returns-in-0 : goal.returns-in-0
+unfolding find
+returns-in-0 c = rw c.in-0.is
+
+pub returns-in-1 : goal.returns-in-1
+unfolding find
+returns-in-1 c = rw c.in-1.is
+
+pub returns-in-2 : goal.returns-in-2
+unfolding find
+returns-in-2 c = rw c.in-2.is
+
+pub returns-in-5 : goal.returns-in-5
+unfolding find
+returns-in-5 c = rw c.in-5.is
+
+pub returns-in-6 : goal.returns-in-6
+unfolding find
+returns-in-6 c = rw c.in-6.is
+
+pub returns-in_default : goal.returns-in_default
+unfolding find
+returns-in_default c = absent row_j c.args.opcode Unit table_j.operations c.in_default.rest

@@ -1,0 +1,32 @@
+-- `r_set` meets its contract: by the arm that was taken.
+use Rattle.isa.proofs.rule.r_set.Goals as goal
+
+pub enum_told-1 : goal.enum_told-1
+enum_told-1 c = c.in-Binary.keys1
+
+pub enum_known-op : goal.enum_known-op
+enum_known-op c = c.in-Unary.keys2
+
+pub enum_told-in-Compare : goal.enum_told-in-Compare
+enum_told-in-Compare c = c.in-Compare.keys3
+
+pub enum_told-in-Shuffle : goal.enum_told-in-Shuffle
+enum_told-in-Shuffle c = c.in-Shuffle.keys4
+
+pub enum_told-in-GetLane : goal.enum_told-in-GetLane
+enum_told-in-GetLane c = c.in-GetLane.keys5
+
+pub returns-in-Binary : goal.returns-in-Binary
+returns-in-Binary c = rw c.in-Binary.is
+
+pub returns-in-Unary : goal.returns-in-Unary
+returns-in-Unary c = rw c.in-Unary.is c.unary_set.ensures
+
+pub returns-in-Compare : goal.returns-in-Compare
+returns-in-Compare c = rw c.in-Compare.is
+
+pub returns-in-Shuffle : goal.returns-in-Shuffle
+returns-in-Shuffle c = rw c.in-Shuffle.is
+
+pub returns-in-GetLane : goal.returns-in-GetLane
+returns-in-GetLane c = rw c.in-GetLane.is

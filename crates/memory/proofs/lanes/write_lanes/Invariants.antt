@@ -1,0 +1,13 @@
+-- `lanes::write_lanes` meets its contract: step j stores lane j, if it is on.
+use mathlib.Core.Bool.{cond}
+use Prim.Native.Nat.{◌+◌, ◌-◌, ◌*◌}
+use Rattle.vector.specs.Lanes.{lane, is_on}
+use Rattle.little_endian.specs.Numbers.{with_number}
+use Rattle.memory.proofs.Stepping.{Stepping}
+use Rattle.memory.proofs.lanes.write_lanes.Given as goal
+
+abbrev pub invariant-loop-j : goal.invariant-loop-j
+invariant-loop-j l = Stepping 16 (λ k l. cond (is_on l.mask k) (with_number 4 l (l.a + 4 * k) (lane l.v k)) l) l.initial.memory l.memory l.j
+
+abbrev pub decreases-loop-j : goal.decreases-loop-j
+decreases-loop-j l = 16 - l.j

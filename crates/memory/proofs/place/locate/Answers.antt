@@ -1,0 +1,35 @@
+-- `place::locate` meets its contract: the tests are those of the definition, in its order.
+use mathlib.Core.Path.{◌≡◌, sym, ap, ◌∙◌}
+use native.Mathlib.Omega.{arith}
+use borrow.Author.Rules.{rules}
+use borrow.Author.Tests.{not-true, not-false}
+use Rattle.memory.specs.Place.{biased, place}
+use Rattle.memory.proofs.Places.{biased-lt, low-enough, when-misaligned, when-outside, when-good}
+use Rattle.memory.proofs.place.locate.Goals as goal
+
+pub overflow_add-inside : goal.overflow_add-inside
+overflow_add-inside c =
+    let a = c.args in
+    omega (arith, c.biased-address.ensures, biased-lt a.base a.offset (search rules) (search rules))
+
+-- the place is that of the address which the code has
+same : (c : tie.After-is-multiple) →
+    let a = c.before.before.args in
+    place a.alignment a.size a.length c.before.biased.result ≡ place a.alignment a.size a.length (biased a.base a.offset)
+same c = let a = c.before.before.args in ap (place a.alignment a.size a.length) c.before.biased.ensures
+
+pub returns-then-not-multiple : goal.returns-then-not-multiple
+returns-then-not-multiple c = sym (when-misaligned _ _ _ _ (sym c.is_multiple-multiple.ensures ∙ not-true _ c.if-not-multiple.true)) ∙ same c
+
+pub returns-then-not-inside : goal.returns-then-not-inside
+returns-then-not-inside c =
+    sym (when-outside _ _ _ _ (sym c.is_multiple-multiple.ensures ∙ not-false _ c.if-not-multiple.false) (not-true _ c.if-not-inside.true))
+    ∙ same c
+
+pub overflow_sub-result : goal.overflow_sub-result
+overflow_sub-result c = low-enough _ _ _ (not-false _ c.if-not-inside.false)
+
+pub returns : goal.returns
+returns c =
+    sym (when-good _ _ _ _ (sym c.is_multiple-multiple.ensures ∙ not-false _ c.if-not-multiple.false) (not-false _ c.if-not-inside.false))
+    ∙ same c

@@ -1,0 +1,34 @@
+-- `write_report` meets its contract, by the answer.
+use mathlib.Core.Path.{◌∙◌}
+use lib.Dec.{lit≤}
+use Rattle.isa.specs.Text.{bytes}
+use Rattle.text.proofs.Placing.{writes-none}
+use Rattle.report.proofs.Lengths.{body-whole}
+use Rattle.report.specs.Report.{report}
+use Rattle.text.specs.Parts.{concat}
+use Rattle.report.proofs.summary.write_report.Goals as goal
+
+pub returns-in-Stopped : goal.returns-in-Stopped
+unfolding report bytes
+returns-in-Stopped c =
+    let x = c.args in
+    rw c.in-Stopped.is
+    (c.put_body.ensures ∙ body-whole x.out.now (bytes "stopped") x.run.issues x.run.machine x.registers.now c.put_body-arg-1.given.0.1 (lit≤ tt))
+
+pub returns-in-Stuck : goal.returns-in-Stuck
+unfolding report bytes
+returns-in-Stuck c =
+    let x = c.args in
+    rw c.in-Stuck.is
+    (c.put_body-in-Stuck.ensures ∙ body-whole x.out.now (bytes "stuck") x.run.issues x.run.machine x.registers.now c.put_body-arg-in-Stopped-2-1.given.0.1 (lit≤ tt))
+
+pub returns-in-Spent : goal.returns-in-Spent
+unfolding report bytes
+returns-in-Spent c =
+    let x = c.args in
+    rw c.in-Spent.is
+    (c.put_body-in-Spent.ensures ∙ body-whole x.out.now (bytes "spent") x.run.issues x.run.machine x.registers.now c.put_body-arg-in-Stuck-2-1.given.0.1 (lit≤ tt))
+
+pub returns-in-Refused : goal.returns-in-Refused
+unfolding report concat
+returns-in-Refused c = rw c.in-Refused.is (writes-none c.args.out.now 0)

@@ -1,0 +1,7 @@
+-- `i_word` meets its contract.
+use Rattle.statement.specs.Meaning.{meaning_with}
+use Rattle.statement.proofs.words.i_word.Goals as goal
+
+pub returns : goal.returns
+unfolding meaning_with
+returns c = rw (← c.bit.ensures.0, ← c.bit-2.ensures.0) c.lettered.ensures
