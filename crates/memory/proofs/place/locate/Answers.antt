@@ -19,17 +19,17 @@ same : (c : tie.After-is-multiple) →
 same c = let a = c.before.before.args in ap (place a.alignment a.size a.length) c.before.biased.ensures
 
 pub returns-then-not-multiple : goal.returns-then-not-multiple
-returns-then-not-multiple c = sym (when-misaligned _ _ _ _ (sym c.is_multiple-multiple.ensures ∙ not-true _ c.if-not-multiple.true)) ∙ same c
+returns-then-not-multiple c = sym (when-misaligned _ _ _ _ (sym c.is_multiple-multiple.ensures ∙ c.if-not-multiple.true)) ∙ same c
 
 pub returns-then-not-inside : goal.returns-then-not-inside
 returns-then-not-inside c =
-    sym (when-outside _ _ _ _ (sym c.is_multiple-multiple.ensures ∙ not-false _ c.if-not-multiple.false) (not-true _ c.if-not-inside.true))
+    sym (when-outside _ _ _ _ (sym c.is_multiple-multiple.ensures ∙ c.if-not-multiple.false) (c.if-not-inside.true))
     ∙ same c
 
 pub overflow_sub-result : goal.overflow_sub-result
-overflow_sub-result c = low-enough _ _ _ (not-false _ c.if-not-inside.false)
+overflow_sub-result c = low-enough _ _ _ (c.if-not-inside.false)
 
 pub returns : goal.returns
 returns c =
-    sym (when-good _ _ _ _ (sym c.is_multiple-multiple.ensures ∙ not-false _ c.if-not-multiple.false) (not-false _ c.if-not-inside.false))
+    sym (when-good _ _ _ _ (sym c.is_multiple-multiple.ensures ∙ c.if-not-multiple.false) (c.if-not-inside.false))
     ∙ same c

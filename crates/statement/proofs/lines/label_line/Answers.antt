@@ -16,7 +16,7 @@ returns-then-not-is_label c =
     let x = c.args in
     let p = c.requires in
     let w = word-part x.line.now x.start x.stop p.1 p.4 in
-    let h : is_label (leading_word (drop x.start x.line.now)) ≡ false = ap is_label (sym w) ∙ sym c.is_label.ensures ∙ not-true _ c.if-not-is_label.true in
+    let h : is_label (leading_word (drop x.start x.line.now)) ≡ false = ap is_label (sym w) ∙ sym c.is_label.ensures ∙ c.if-not-is_label.true in
     ((λ a. no_label a (leading_word (drop x.start x.line.now)) (tokens (drop x.next x.line.now)) h), omega arith)
 
 pub returns-in-End : goal.returns-in-End
@@ -24,7 +24,7 @@ returns-in-End c =
     let x = c.args in
     let p = c.requires in
     let w = word-part x.line.now x.start x.stop p.1 p.4 in
-    let h : is_label (leading_word (drop x.start x.line.now)) ≡ true = ap is_label (sym w) ∙ sym c.is_label.ensures ∙ not-false _ c.if-not-is_label.false in
+    let h : is_label (leading_word (drop x.start x.line.now)) ≡ true = ap is_label (sym w) ∙ sym c.is_label.ensures ∙ c.if-not-is_label.false in
     ((λ a. a-label a (leading_word (drop x.start x.line.now)) (tokens (drop x.next x.line.now)) h (rw c.in-End.is at (token-read _ _ _ c.token_at-t.ensures).0)), omega arith)
 
 pub returns-in-Word : goal.returns-in-Word

@@ -5,4 +5,4 @@ use Rattle.text.proofs.Digits.{decimal-is}
 use Rattle.text.proofs.number.put_long.Goals as goal
 
 pub returns : goal.returns
-returns c = let d = c.decimal-count in rw (d.ensures.1.1 ∙ decimal-is c.args.n d.result (omega arith) d.ensures.1.0) at c.put_text.ensures
+returns c = let d = c.decimal-count in rw (d.ensures.digits ∙ decimal-is c.args.n d.result (omega arith) d.ensures.len) at c.put_text.ensures

@@ -16,7 +16,7 @@ pub in_word-requires : goal.in_word-requires
 in_word-requires c = search rules
 
 pub returns-then-not-in_word : goal.returns-then-not-in_word
-returns-then-not-in_word c = run-stops c.args.line.now c.loop-i.i (omega arith) (sym c.in_word.ensures ∙ not-true _ c.if-not-in_word.true) ∙ c.loop-i.invariant
+returns-then-not-in_word c = run-stops c.args.line.now c.loop-i.i (omega arith) (sym c.in_word.ensures ∙ c.if-not-in_word.true) ∙ c.loop-i.invariant
 
 pub overflow_add-i : goal.overflow_add-i
 overflow_add-i c = omega arith
@@ -25,7 +25,7 @@ pub loop-i-smaller : goal.loop-i-smaller
 loop-i-smaller c = omega arith
 
 pub loop-i-preserved : goal.loop-i-preserved
-loop-i-preserved c = run_on c.args.line.now c.loop-i.i (omega arith) (sym c.in_word.ensures ∙ not-false _ c.if-not-in_word.false) ∙ c.loop-i.invariant
+loop-i-preserved c = run_on c.args.line.now c.loop-i.i (omega arith) (sym c.in_word.ensures ∙ c.if-not-in_word.false) ∙ c.loop-i.invariant
 
 pub returns : goal.returns
 returns c = run_ends c.args.line.now c.loop-i.i (omega arith) ∙ c.loop-i.invariant
