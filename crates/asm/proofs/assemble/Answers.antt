@@ -1,4 +1,5 @@
 -- `assemble` is safe: the words are a part of their buffer.
+use borrow.Author.Rules.{rules}
 use Rattle.assembler.proofs.Shown.{words-within}
 use Rattle.text.proofs.Shown.{shown}
 use Rattle.asm.proofs.assemble.Goals as goal

@@ -1,4 +1,5 @@
 -- `export` is safe: the text is a part of its buffer.
+use borrow.Author.Rules.{rules}
 use Rattle.intel_hex.proofs.Shown.{text-within}
 use Rattle.text.proofs.Shown.{shown}
 use Rattle.exporter.proofs.export.Goals as goal

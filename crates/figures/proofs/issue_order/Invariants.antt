@@ -1,6 +1,7 @@
 -- `issue_order` is safe: the registers and the memory keep their lengths.
 use Prim.Native.Nat.{◌-◌, ◌≤◌}
 use mathlib.Core.Path.{◌≡◌}
+use borrow.Author.Rules.{rules}
 use lib.ListN.{length}
 use Rattle.figures.proofs.issue_order.Given as goal
 

@@ -1,5 +1,6 @@
 -- `say_lanes` is safe: all sixteen lanes are in the registers.
 use Prim.Native.Nat.{◌-◌, ◌≤◌}
+use borrow.Author.Rules.{rules}
 use Rattle.figures.proofs.say_lanes.Given as goal
 
 abbrev pub invariant-loop-j : goal.invariant-loop-j

@@ -1,4 +1,5 @@
 -- `import` is safe: the words are a part of their buffer.
+use borrow.Author.Rules.{rules}
 use Rattle.intel_hex.proofs.Shown.{words-within}
 use Rattle.text.proofs.Shown.{shown}
 use Rattle.importer.proofs.import.Goals as goal

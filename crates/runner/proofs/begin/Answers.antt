@@ -1,4 +1,5 @@
 -- `begin` is safe: an allowed memory has at most 65,536 bytes.
+use borrow.Author.Rules.{rules}
 use lib.ListN.{replicate}
 use Rattle.answer.specs.Refusal.{memory_bytes}
 use mathlib.Core.Path.{sym, ◌∙◌}

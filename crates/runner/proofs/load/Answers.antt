@@ -1,4 +1,5 @@
 -- `load` is safe: the program is a part of its buffer.
+use borrow.Author.Rules.{rules}
 use Rattle.program.proofs.Shown.{words-within}
 use Rattle.text.proofs.Shown.{shown}
 use Rattle.runner.proofs.load.Goals as goal

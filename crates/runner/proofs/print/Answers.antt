@@ -1,4 +1,5 @@
 -- `print` is safe: what it prints is a part of the buffer.
+use borrow.Author.Rules.{rules}
 use Rattle.text.proofs.Shown.{shown}
 use Rattle.report.proofs.Shown.{within}
 use Rattle.runner.proofs.print.Goals as goal

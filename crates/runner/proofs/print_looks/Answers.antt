@@ -2,6 +2,7 @@
 use Prim.Native.Nat.{ℕ, ◌≤◌}
 use mathlib.Core.List.{List}
 use mathlib.Core.Path.{◌≡◌}
+use borrow.Author.Rules.{rules}
 use lib.ListN.{length}
 use Rattle.report.specs.Report.{looks_line}
 use Rattle.text.proofs.Shown.{shown, text-within}

@@ -1,4 +1,5 @@
 -- `resume` is safe: an image has a memory of at most 65,536 bytes.
+use borrow.Author.Rules.{rules}
 use lib.ListN.{replicate}
 use mathlib.Core.Path.{sym, ◌∙◌}
 use Rattle.answer.proofs.Lengths.{memory-most}

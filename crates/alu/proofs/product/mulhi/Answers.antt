@@ -7,7 +7,7 @@ use Rattle.alu.proofs.product.mulhi.Goals as goal
 
 pub returns : goal.returns
 returns c =
-    difference _ _ _ (search rules) (search rules) c.wrapping_sub_u32.ensures
+    difference _ _ _ (search rules) (search rules) c.wrapping_sub_u32.ensures.value
     ∙ ap₂ (binary Sub)
     (difference _ _ _ (search rules) (search rules) c.wrapping_sub_u32-h.ensures
     ∙ ap₂ (binary Sub) c.mulhu.ensures c.excess.ensures)

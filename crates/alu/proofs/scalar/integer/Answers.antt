@@ -16,7 +16,7 @@ pub returns-in-Add : goal.returns-in-Add
 returns-in-Add c = rw c.in-Add.is c.wrapping_add_u32.ensures
 
 pub returns-in-Sub : goal.returns-in-Sub
-returns-in-Sub c = rw c.in-Sub.is (difference _ _ _ (search rules) (search rules) c.wrapping_sub_u32.ensures)
+returns-in-Sub c = rw c.in-Sub.is (difference _ _ _ (search rules) (search rules) c.wrapping_sub_u32.ensures.value)
 
 pub returns-in-Mullo : goal.returns-in-Mullo
 returns-in-Mullo c = rw c.in-Mullo.is c.mullo.ensures

@@ -6,6 +6,7 @@ use lib.Seq.{length-take-le}
 use lib.ListN.{length, take}
 use mathlib.Core.Path.{sym, ap, ◌∙◌}
 use Prim.Native.Nat.{◌*◌}
+use borrow.Author.Rules.{rules}
 use Rattle.assembler.proofs.assembling.assemble_labelled.Goals as goal
 
 pub slice_bounds-assemble_lines-end : goal.slice_bounds-assemble_lines-end

@@ -6,6 +6,7 @@ use Rattle.expression.specs.Label.{address_in}
 use lib.ListN.{length}
 use mathlib.Core.Option.{none, some}
 use mathlib.Core.Path.{◌≡◌, sym, ◌∙◌}
+use borrow.Author.Rules.{rules}
 use Rattle.assembler.proofs.assembling.assemble_lines.Goals as goal
 
 pub finish-requires : goal.finish-requires

@@ -4,6 +4,7 @@ use Rattle.assembler.specs.Source.{at-line, first, texts_of, text_number}
 use lib.ListN.{length}
 use mathlib.Core.Option.{none, some}
 use mathlib.Core.Path.{◌≡◌}
+use borrow.Author.Rules.{rules}
 use Rattle.assembler.proofs.assembling.assemble_texts.Goals as goal
 
 pub returns-in-Refused : goal.returns-in-Refused

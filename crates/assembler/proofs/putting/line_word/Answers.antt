@@ -1,4 +1,5 @@
 -- `line_word` meets its contract.
+use borrow.Author.Rules.{rules}
 use Rattle.assembler.proofs.putting.line_word.Goals as goal
 
 pub returns-in-TooLarge : goal.returns-in-TooLarge

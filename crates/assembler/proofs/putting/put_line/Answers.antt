@@ -1,4 +1,5 @@
 -- `put_line` meets its contract.
+use borrow.Author.Rules.{rules}
 use Rattle.assembler.proofs.putting.put_line.Goals as goal
 
 pub bounds-words-k : goal.bounds-words-k

@@ -1,10 +1,12 @@
 -- `fill` meets its contract: page by page it follows the plain run.
 use Prim.Native.Nat.{◌-◌, ◌<◌, ◌^◌}
-use mathlib.Core.Path.{refl, sym, ap, ◌∙◌}
+use mathlib.Core.Path.{◌≡◌, refl, sym, ap, ◌∙◌}
 use native.Mathlib.Omega.{arith}
+use borrow.Author.Rules.{rules}
+use lib.ListN.{length}
 use Rattle.machine.specs.State.{State, state}
 use Rattle.capi_trace.specs.Calls.{filling}
-use Rattle.capi_trace.proofs.Pages.{from-here, begun, more-fits, turned, nearer, ended}
+use Rattle.capi_trace.proofs.Pages.{Following, from-here, begun, more-fits, turned, nearer, ended}
 use Rattle.capi_trace.proofs.filling.fill.Goals as goal
 
 pub loop-left-init : goal.loop-left-init

@@ -1,4 +1,5 @@
 -- `goes_on` meets its contract, by the answer.
+use borrow.Author.Rules.{rules}
 use Rattle.capi_trace.proofs.filling.goes_on.Goals as goal
 
 pub returns-in-Spent : goal.returns-in-Spent

@@ -1,9 +1,10 @@
 -- `put_numbers` meets its contract: after k turns the first k numbers are put.
-use Prim.Native.Nat.{◌-◌}
+use Prim.Native.Nat.{◌-◌, ◌≤◌}
 use mathlib.Core.Path.{◌≡◌, refl, ap, ◌∙◌}
 use native.Mathlib.Numerals.{add-one}
 use native.Mathlib.Omega.{arith}
-use lib.ListN.{take}
+use borrow.Author.Rules.{rules}
+use lib.ListN.{length, take}
 use lib.Seq.{take_all}
 use Rattle.capi_trace.specs.Numbers.{put_all}
 use Rattle.capi_trace.proofs.Putting.{put-more}

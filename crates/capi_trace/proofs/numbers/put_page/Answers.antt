@@ -1,9 +1,10 @@
 -- `put_page` meets its contract: after k turns the first k rows are put.
-use Prim.Native.Nat.{◌-◌}
+use Prim.Native.Nat.{◌-◌, ◌≤◌}
 use mathlib.Core.Path.{◌≡◌, refl, ap, ◌∙◌}
 use native.Mathlib.Numerals.{add-one}
 use native.Mathlib.Omega.{arith}
-use lib.ListN.{take}
+use borrow.Author.Rules.{rules}
+use lib.ListN.{length, take}
 use Rattle.capi_trace.specs.Numbers.{put_rows}
 use Rattle.capi_trace.proofs.Putting.{put-row-more}
 use Rattle.capi_trace.proofs.numbers.put_page.Goals as goal

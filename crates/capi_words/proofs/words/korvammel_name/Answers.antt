@@ -1,6 +1,6 @@
 -- `korvammel_name` meets its contract: by whether the numbers have a word.
 use Prim.Native.Nat.{ℕ, suc, ◌≤◌}
-use mathlib.Core.List.{List, ◌∷◌}
+use mathlib.Core.List.{List, [], ◌∷◌}
 use mathlib.Core.Path.{◌≡◌, refl, sym, ap, ◌∙◌}
 use native.Mathlib.Omega.{arith}
 use lib.ListN.{length, get_or}
@@ -11,6 +11,7 @@ use Rattle.fields.specs.Claims.{HasWord}
 use Rattle.fields.specs.Find.{word_for, found}
 use Rattle.answer.specs.Left.{left}
 use Rattle.capi_words.specs.Words.{name_call}
+use borrow.Author.Rules.{rules}
 use Rattle.capi_words.proofs.words.korvammel_name.Goals as goal
 
 -- the first eight bytes of a name, which hold it whole

@@ -1,4 +1,5 @@
 -- `outcome::outcomes_of` meets its contract.
+use borrow.Author.Rules.{rules}
 use Rattle.compares.proofs.outcome.outcomes_of.Goals as goal
 
 pub returns : goal.returns

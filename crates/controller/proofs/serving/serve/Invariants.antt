@@ -1,4 +1,6 @@
 -- `serving::serve` is safe and ends: the measure is the number of reads that are left.
+use borrow.Author.Rules.{rules}
+use native.Mathlib.Omega.{arith}
 use Rattle.controller.proofs.serving.serve.Given as goal
 
 abbrev pub invariant-loop-reads : goal.invariant-loop-reads

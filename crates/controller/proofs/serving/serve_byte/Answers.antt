@@ -1,6 +1,7 @@
 -- `serving::serve_byte` is safe: what it prints is a part of the buffer.
 use Rattle.minute_lines.proofs.Shown.{step-within}
 use Rattle.text.proofs.Shown.{shown}
+use borrow.Author.Rules.{rules}
 use Rattle.controller.proofs.serving.serve_byte.Goals as goal
 
 pub slice_bounds-out-end : goal.slice_bounds-out-end

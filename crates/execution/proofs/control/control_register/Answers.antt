@@ -1,5 +1,5 @@
 -- `control::control_register` meets its contract: by the arm that was taken.
-use Rattle.std.proofs.Common.{ne_eqb}
+use Rattle.std.proofs.Common.{rules, ne_eqb}
 use Rattle.execution.specs.Control.{control_register}
 use Rattle.execution.proofs.control.control_register.Goals as goal
 
@@ -37,4 +37,4 @@ returns-in-16 c = rw c.in-16.is
 
 pub returns-in_default : goal.returns-in_default
 unfolding control_register
-returns-in_default c = let r = c.in_default.rest in rw (ne_eqb _ 0 r.0.0.0.0.0.0.0.1, ne_eqb _ 1 r.0.0.0.0.0.0.1, ne_eqb _ 2 r.0.0.0.0.0.1, ne_eqb _ 3 r.0.0.0.0.1, ne_eqb _ 6 r.0.0.0.1, ne_eqb _ 9 r.0.0.1, ne_eqb _ 14 r.0.1, ne_eqb _ 16 r.1)
+returns-in_default c = let r = c.in_default.in_default-own.rest in rw (ne_eqb _ 0 r.0.0.0.0.0.0.0.1, ne_eqb _ 1 r.0.0.0.0.0.0.1, ne_eqb _ 2 r.0.0.0.0.0.1, ne_eqb _ 3 r.0.0.0.0.1, ne_eqb _ 6 r.0.0.0.1, ne_eqb _ 9 r.0.0.1, ne_eqb _ 14 r.0.1, ne_eqb _ 16 r.1)

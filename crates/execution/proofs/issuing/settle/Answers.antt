@@ -1,4 +1,5 @@
 -- `issuing::settle` meets its contract: by the effect of the instruction.
+use Rattle.std.proofs.Common.{rules}
 use Rattle.execution.proofs.issuing.settle.Goals as goal
 
 pub returns-in-Stays : goal.returns-in-Stays

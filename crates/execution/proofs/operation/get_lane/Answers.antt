@@ -1,5 +1,6 @@
 -- `operation::get_lane` meets its contract.
 use Rattle.execution.specs.Operation.{get_lane_into}
+use Rattle.std.proofs.Common.{rules}
 use Rattle.execution.proofs.operation.get_lane.Goals as goal
 
 pub returns : goal.returns

@@ -1,5 +1,6 @@
 -- `operation::shuffle` meets its contract.
 use Rattle.execution.specs.Operation.{shuffle_into}
+use Rattle.std.proofs.Common.{rules}
 use Rattle.execution.proofs.operation.shuffle.Goals as goal
 
 pub returns : goal.returns

@@ -1,3 +1,4 @@
+use mathlib.Core.Path.{sym, ap, ◌∙◌}
 use borrow.Author.Rules.{rules}
 use Rattle.expression.proofs.value.add.Reads as reads
 use Rattle.expression.proofs.value.add.Lts as lts

@@ -1,3 +1,4 @@
+use native.Mathlib.Omega.{arith}
 use borrow.Author.Rules.{rules}
 use Rattle.expression.proofs.value.plus.Reads as reads
 use Rattle.expression.proofs.value.plus.Lts as lts

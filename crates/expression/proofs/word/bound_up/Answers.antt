@@ -1,4 +1,5 @@
 use native.Mathlib.Omega.{arith}
+use borrow.Author.Tests.{lt-ltb, le-ltb}
 use Rattle.expression.proofs.Values.{too_large}
 use borrow.Author.Rules.{rules}
 use Rattle.expression.proofs.word.bound_up.Reads as reads

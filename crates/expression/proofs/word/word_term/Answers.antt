@@ -4,6 +4,7 @@ use native.Mathlib.Omega.{arith}
 use Rattle.expression.specs.Label.{address_in}
 use Rattle.expression.proofs.Values.{label-in-range}
 use Rattle.expression.proofs.Words.{a-number, a-label, no-term}
+use borrow.Author.Rules.{rules}
 use Rattle.expression.proofs.word.word_term.Goals as goal
 
 pub returns-then-is_label : goal.returns-then-is_label

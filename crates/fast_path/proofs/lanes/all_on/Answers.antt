@@ -1,4 +1,5 @@
 -- `lanes::all_on` meets its contract.
+use Rattle.std.proofs.Common.{rules}
 use Rattle.fast_path.proofs.lanes.all_on.Goals as goal
 
 pub returns : goal.returns

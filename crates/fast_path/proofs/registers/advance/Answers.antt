@@ -1,4 +1,5 @@
 -- `registers::advance` meets its contract.
+use Rattle.std.proofs.Common.{rules}
 use Rattle.fast_path.proofs.registers.advance.Goals as goal
 
 pub returns : goal.returns

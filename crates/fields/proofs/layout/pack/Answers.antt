@@ -1,5 +1,6 @@
 -- `pack` meets its contract: by the format.
 use native.Mathlib.Omega.{arith}
+use borrow.Author.Rules.{rules}
 use borrow.Author.Tests.{ne_eqb}
 use Rattle.fields.specs.Numbers.{word_of}
 use Rattle.fields.proofs.layout.pack.Goals as goal

@@ -1,4 +1,5 @@
 -- `write_file` is safe: the longer name is a part of its buffer.
+use borrow.Author.Rules.{rules}
 use native.Mathlib.Omega.{arith}
 use Rattle.text.proofs.Shown.{put-within, shown}
 use Rattle.files.proofs.writing.write_file.Goals as goal

@@ -1,4 +1,5 @@
 -- `write_words` is safe: what it writes is a part of the buffer.
+use borrow.Author.Rules.{rules}
 use Rattle.program.proofs.Shown.{bytes-within}
 use Rattle.text.proofs.Shown.{shown}
 use Rattle.files.proofs.writing.write_words.Goals as goal

@@ -1,10 +1,11 @@
 -- `bytes::number_at` meets its contract.
-use Prim.Native.Nat.{◌+◌, ◌*◌, ◌-◌, ◌^◌, ◌<◌}
+use Prim.Native.Nat.{◌+◌, ◌*◌, ◌-◌, ◌^◌, ◌≤◌, ◌<◌}
 use mathlib.Core.Path.{◌≡◌, refl, ap, ◌∙◌}
 use lib.ListN.{get_or}
 use Rattle.little_endian.specs.Numbers.{number_at}
 use Rattle.image.proofs.Words.{number_more, number-few, seven-few}
 use native.Mathlib.Omega.{arith}
+use borrow.Author.Rules.{rules}
 use Rattle.image.proofs.bytes.number_at.Goals as goal
 
 pub loop-j-init : goal.loop-j-init

@@ -1,7 +1,11 @@
 -- `bytes::number_at` meets its contract.
 use Prim.Native.Nat.{◌+◌, ◌*◌, ◌-◌, ◌^◌, ◌≤◌, ◌<◌}
-use mathlib.Core.Path.{◌≡◌}
+use mathlib.Core.Path.{◌≡◌, refl, ap, ◌∙◌}
+use lib.ListN.{get_or}
 use Rattle.little_endian.specs.Numbers.{number_at}
+use Rattle.image.proofs.Words.{number_more, number-few, seven-few}
+use native.Mathlib.Omega.{arith}
+use borrow.Author.Rules.{rules}
 use Rattle.image.proofs.bytes.number_at.Given as goal
 
 abbrev pub invariant-loop-j : goal.invariant-loop-j

@@ -5,6 +5,7 @@ use Rattle.image_layout.proofs.Rows.{entry-most}
 use Rattle.little_endian.specs.Numbers.{number_at}
 use Rattle.image.specs.Fields.{thread_of}
 use Rattle.image.proofs.RecordIn.{entry-number}
+use borrow.Author.Rules.{rules}
 use Rattle.image.proofs.entries.entry_at.Goals as goal
 
 pub number_at-first-requires : goal.number_at-first-requires

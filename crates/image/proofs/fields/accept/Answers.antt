@@ -1,5 +1,6 @@
 -- `fields::accept` meets its contract.
 use mathlib.Core.Path.{◌≡◌, sym, ap, ◌∙◌}
+use borrow.Author.Rules.{rules}
 use Rattle.image.specs.Fields.{checked_thread, same_fields, status_fields, fields_of}
 use Rattle.image.proofs.fields.accept.Goals as goal
 

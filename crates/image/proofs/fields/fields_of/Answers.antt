@@ -1,4 +1,5 @@
 -- `fields::fields_of` meets its contract.
+use borrow.Author.Rules.{rules}
 use Rattle.image.proofs.fields.fields_of.Goals as goal
 
 pub returns-in-Idle : goal.returns-in-Idle

@@ -1,6 +1,7 @@
 -- `fields::read_entry` meets its contract.
 use mathlib.Core.Path.{◌≡◌, refl, sym, ap, ◌∙◌}
 use mathlib.Core.Option.{Option, some, none}
+use borrow.Author.Rules.{rules}
 use borrow.Author.Tests.{ne_eqb}
 use Rattle.answer.specs.Answer.{Answer}
 use Rattle.image.specs.Fields.{checked_thread, status_of, thread_of}
@@ -35,7 +36,7 @@ pub returns-in_default : goal.returns-in_default
 unfolding checked_thread
 returns-in_default c =
     let f = c.args.fields in
-    let n = c.in_default.rest in
+    let n = c.in_default.in_default-own.rest in
     named f none
     (simp (ne_eqb f.status 0 n.0.0.0.0.1, ne_eqb f.status 1 n.0.0.0.1, ne_eqb f.status 2 n.0.0.1, ne_eqb f.status 3 n.0.1, ne_eqb f.status 4 n.1))
     refl

@@ -4,6 +4,7 @@ use mathlib.Core.Path.{◌≡◌, ◌∙◌}
 use lib.Dec.{eqb}
 use Rattle.image.proofs.FourBytes.{four-stand}
 use native.Mathlib.Omega.{arith}
+use borrow.Author.Rules.{rules}
 use Rattle.image.proofs.heads.four_stand.Goals as goal
 
 pub returns : goal.returns

@@ -10,9 +10,10 @@ use Rattle.image_layout.specs.Layout.{fixed_of, form_of}
 use Rattle.image.specs.Calls.{reading, read_by}
 use Rattle.image.specs.Image.{shape_of}
 use Rattle.image.specs.Refusal.{records_number}
-use Rattle.image.specs.Types.{Machine}
+use Rattle.image.specs.Types.{Form, Machine}
 use Rattle.image.proofs.Refusals.{sized, long, lengths, memory-blocks, read_number_lem, read-by}
 use native.Mathlib.Omega.{arith}
+use borrow.Author.Rules.{rules}
 use Rattle.image.proofs.reading.read.Goals as goal
 
 -- what the lengths are refused with, once the form is found

@@ -7,6 +7,7 @@ use Rattle.machine.specs.Machine.{zeroed}
 use Rattle.image.specs.Calls.{reading, read_by}
 use Rattle.image.specs.Image.{machine_in}
 use Rattle.image.specs.Types.{Machine}
+use borrow.Author.Rules.{rules}
 use Rattle.image.proofs.reading.read_sized.Goals as goal
 
 pub take_registers-requires : goal.take_registers-requires

@@ -4,6 +4,7 @@ use borrow.Author.Tests.{not-true, not-false}
 use Rattle.answer.specs.Refusal.{refused_or}
 use Rattle.machine.specs.Machine.{zeroed}
 use Rattle.image.proofs.Refusals.{content-heads, content-bad, content-none}
+use borrow.Author.Rules.{rules}
 use Rattle.image.proofs.verdicts.judge_content.Goals as goal
 
 pub returns-then-not-stands : goal.returns-then-not-stands

@@ -1,5 +1,6 @@
 -- `verdicts::judge_record` meets its contract.
 use mathlib.Core.Path.{sym, ◌∙◌}
+use borrow.Author.Rules.{rules}
 use borrow.Author.Tests.{not-true, not-false}
 use Rattle.image.proofs.Refusals.{record-bad, record-loses, record-none}
 use Rattle.image.proofs.verdicts.judge_record.Goals as goal

@@ -16,6 +16,7 @@ use Rattle.image.specs.Types.{Form}
 use Rattle.image.proofs.Refusals.{sized, long, lengths, memory-blocks, write-number, write-by, write-good}
 use Rattle.image.proofs.Bodies.{suits}
 use native.Mathlib.Omega.{arith}
+use borrow.Author.Rules.{rules}
 use Rattle.image.proofs.writing.write_as.Goals as goal
 
 -- the two verdicts are the number of the call

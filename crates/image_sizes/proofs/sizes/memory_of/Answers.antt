@@ -3,6 +3,7 @@ use Prim.Native.Nat.{◌*◌, ◌-◌, ◌/◌}
 use mathlib.Core.Path.{◌≡◌, ap, ◌∙◌}
 use native.Mathlib.Omega.{arith}
 use Rattle.image_layout.specs.Layout.{fixed_of, form_of}
+use borrow.Author.Rules.{rules}
 use Rattle.image_sizes.proofs.sizes.memory_of.Goals as goal
 
 -- the fixed part of the form that the length says

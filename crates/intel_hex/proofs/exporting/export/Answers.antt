@@ -1,5 +1,6 @@
 -- `export` meets its contract: by the program's length, the buffer's, or the records and the end.
 use Prim.Native.Nat.{◌+◌, ◌/◌}
+use mathlib.Core.List.{[]}
 use mathlib.Core.Path.{sym, ◌∙◌}
 use native.Mathlib.Omega.{arith}
 use lib.ListN.{length}

@@ -1,11 +1,11 @@
 -- `put_body` meets its contract: after k turns the first k records stand in the buffer.
 use borrow.Author.Rules.{rules}
-use Prim.Native.Nat.{ℕ, ◌+◌, ◌-◌, ◌*◌, ◌/◌}
+use Prim.Native.Nat.{ℕ, ◌+◌, ◌-◌, ◌*◌, ◌/◌, ◌≤◌}
 use mathlib.Core.List.{List}
 use mathlib.Core.Path.{◌≡◌, refl, ap, ◌∙◌}
 use native.Mathlib.Omega.{arith}
 use lib.ListN.{length, take, drop}
-use Rattle.text.specs.Buffer.{writes}
+use Rattle.text.specs.Buffer.{wrote, writes}
 use Rattle.text.proofs.Placing.{length-wrote, next, writes-none}
 use Rattle.intel_hex.specs.Export.{record_text, body}
 use Rattle.intel_hex.specs.Program.{program_bytes}

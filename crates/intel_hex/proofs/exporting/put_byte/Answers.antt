@@ -1,7 +1,7 @@
 -- `put_byte` meets its contract: two digits, one behind the other.
 use Prim.Native.Nat.{◌+◌}
 use native.Mathlib.Omega.{arith}
-use mathlib.Core.List.{◌∷◌}
+use mathlib.Core.List.{[], ◌∷◌}
 use mathlib.Core.Path.{◌≡◌, sym, ◌∙◌, ap}
 use lib.ListN.{length-set, set}
 use Rattle.text.specs.Buffer.{Wrote, wrote}

@@ -1,6 +1,6 @@
 -- `put_record` meets its contract: head, bytes and tail one behind the other.
 use Prim.Native.Nat.{ℕ}
-use mathlib.Core.List.{List, ◌∷◌, ◌++◌}
+use mathlib.Core.List.{List, [], ◌∷◌, ◌++◌}
 use mathlib.Core.Path.{◌≡◌, ap, ◌∙◌}
 use native.Mathlib.Omega.{arith}
 use lib.ListN.{take, drop, length-append}

@@ -3,9 +3,10 @@ use Prim.Native.Nat.{◌-◌}
 use mathlib.Core.Path.{sym, ap, ◌∙◌}
 use borrow.Author.Rules.{rules}
 use native.Mathlib.Omega.{arith}
+use lib.ListN.{length}
 use Rattle.intel_hex.specs.Scan.{advanced}
 use Rattle.intel_hex.specs.Types.{Step}
-use Rattle.intel_hex.proofs.Scanning.{begin, judged-behind, judged-unended, judged-whole, judged-endless, judged-stops, judging}
+use Rattle.intel_hex.proofs.Scanning.{Judging, begin, judged-behind, judged-unended, judged-whole, judged-endless, judged-stops, judging}
 use Rattle.intel_hex.proofs.scan.judge.Goals as goal
 
 pub loop-at-init : goal.loop-at-init

@@ -3,7 +3,8 @@ use Prim.Native.Nat.{◌-◌}
 use mathlib.Core.Path.{◌≡◌}
 use borrow.Author.Rules.{rules}
 use native.Mathlib.Omega.{arith}
-use Rattle.intel_hex.proofs.Passing.{begin, stored, inside, fits, goes, same-image}
+use lib.ListN.{length}
+use Rattle.intel_hex.proofs.Passing.{Storing, begin, stored, inside, fits, goes, same-image}
 use Rattle.intel_hex.proofs.storing.store.Goals as goal
 
 pub loop-at-init : goal.loop-at-init

@@ -1,5 +1,6 @@
 -- `running::ended` meets its contract.
 use mathlib.Core.Path.{refl}
+use borrow.Author.Rules.{rules}
 use Rattle.interpreter.specs.Choosing.{idle_ending}
 use Rattle.interpreter.proofs.running.ended.Goals as goal
 

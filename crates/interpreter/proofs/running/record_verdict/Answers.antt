@@ -1,6 +1,7 @@
 -- `running::record_verdict` meets its contract.
 use Rattle.answer.specs.Refusal.{first_that_applies}
 use Rattle.interpreter.specs.Refusal.{record_number}
+use borrow.Author.Rules.{rules}
 use Rattle.interpreter.proofs.running.record_verdict.Goals as goal
 
 pub returns-then-fine : goal.returns-then-fine

@@ -1,6 +1,7 @@
 -- `running::run` meets its contract.
 use mathlib.Core.Path.{◌≡◌, sym, ap, ◌∙◌}
 use mathlib.Core.Option.{none}
+use borrow.Author.Rules.{rules}
 use Rattle.machine.specs.State.{State, state}
 use Rattle.answer.specs.Refusal.{number_of}
 use Rattle.interpreter.specs.Run.{number}

@@ -4,6 +4,7 @@ use mathlib.Core.Path.{sym, ◌∙◌}
 use Rattle.answer.proofs.Checks.{first-after}
 use Rattle.answer.specs.Refusal.{length_checks, lengths_number, refused_or}
 use Rattle.interpreter.specs.Refusal.{record_checks, record_number, run_number}
+use borrow.Author.Rules.{rules}
 use Rattle.interpreter.proofs.running.run_verdict.Goals as goal
 
 pub returns : goal.returns

@@ -1,7 +1,8 @@
 -- `starting::clear` meets its contract.
-use Prim.Native.Nat.{◌-◌}
+use Prim.Native.Nat.{◌-◌, ◌≤◌}
 use mathlib.Core.Path.{◌≡◌, refl, ap, ◌∙◌}
 use native.Mathlib.Omega.{arith}
+use borrow.Author.Rules.{rules}
 use lib.ListN.{length, set, length-set}
 use Rattle.interpreter.proofs.Rooms.{cleared, cleared_more, cleared-all}
 use Rattle.interpreter.proofs.starting.clear.Goals as goal

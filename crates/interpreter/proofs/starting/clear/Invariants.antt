@@ -1,8 +1,10 @@
 -- `starting::clear` meets its contract.
 use Prim.Native.Nat.{◌-◌, ◌≤◌}
-use mathlib.Core.Path.{◌≡◌}
-use lib.ListN.{length}
-use Rattle.interpreter.proofs.Rooms.{cleared}
+use mathlib.Core.Path.{◌≡◌, refl, ap, ◌∙◌}
+use native.Mathlib.Omega.{arith}
+use borrow.Author.Rules.{rules}
+use lib.ListN.{length, set, length-set}
+use Rattle.interpreter.proofs.Rooms.{cleared, cleared_more, cleared-all}
 use Rattle.interpreter.proofs.starting.clear.Given as goal
 
 abbrev pub invariant-loop-i : goal.invariant-loop-i

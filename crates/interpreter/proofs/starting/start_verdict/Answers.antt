@@ -1,4 +1,5 @@
 -- `starting::start_verdict` meets its contract.
+use borrow.Author.Rules.{rules}
 use Rattle.answer.specs.Refusal.{first_that_applies}
 use Rattle.interpreter.specs.Refusal.{start_number}
 use Rattle.interpreter.proofs.starting.start_verdict.Goals as goal

@@ -17,4 +17,4 @@ returns-in-2 c = rw c.in-2.is
 
 pub returns-in_default : goal.returns-in_default
 unfolding find
-returns-in_default c = absent row_c c.args.opcode Unit table_c.operations c.in_default.rest
+returns-in_default c = absent row_c c.args.opcode Unit table_c.operations c.in_default.in_default-own.rest

@@ -25,4 +25,4 @@ returns-in-6 c = rw c.in-6.is
 
 pub returns-in_default : goal.returns-in_default
 unfolding find
-returns-in_default c = absent row_j c.args.opcode Unit table_j.operations c.in_default.rest
+returns-in_default c = absent row_j c.args.opcode Unit table_j.operations c.in_default.in_default-own.rest

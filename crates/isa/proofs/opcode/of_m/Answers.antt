@@ -45,4 +45,4 @@ returns-in-40 c = rw c.in-40.is
 
 pub returns-in_default : goal.returns-in_default
 unfolding find
-returns-in_default c = absent row_m c.args.opcode Unit table_m.operations c.in_default.rest
+returns-in_default c = absent row_m c.args.opcode Unit table_m.operations c.in_default.in_default-own.rest

@@ -165,4 +165,4 @@ returns-in-49 c = rw c.in-49.is
 
 pub returns-in_default : goal.returns-in_default
 unfolding find
-returns-in_default c = absent row_r c.args.opcode Unit table_r.operations c.in_default.rest
+returns-in_default c = absent row_r c.args.opcode Unit table_r.operations c.in_default.in_default-own.rest

@@ -1,23 +1,6 @@
 -- `opcode_of` meets its contract: by the instruction's format.
+use Rattle.std.proofs.Common.{rules}
 use Rattle.isa.proofs.opcode.opcode_of.Goals as goal
-
-pub enum_known-i : goal.enum_known-i
-enum_known-i c = c.in-R.keys1
-
-pub enum_known-i-in-I-1 : goal.enum_known-i-in-I-1
-enum_known-i-in-I-1 c = c.in-I.keys2
-
-pub enum_known-i-in-Movei-1 : goal.enum_known-i-in-Movei-1
-enum_known-i-in-Movei-1 c = c.in-Movei.keys3
-
-pub enum_known-i-in-J-1 : goal.enum_known-i-in-J-1
-enum_known-i-in-J-1 c = c.in-J.keys4
-
-pub enum_known-i-in-C-1 : goal.enum_known-i-in-C-1
-enum_known-i-in-C-1 c = c.in-C.keys5
-
-pub enum_known-i-in-M-1 : goal.enum_known-i-in-M-1
-enum_known-i-in-M-1 c = c.in-M.keys6
 
 pub returns-in-R : goal.returns-in-R
 returns-in-R c = rw c.in-R.is c.r_opcode.ensures

@@ -1,4 +1,5 @@
 -- `c_slots` meets its contract.
+use Rattle.std.proofs.Common.{rules}
 use Rattle.isa.proofs.operands.c_slots.Goals as goal
 
 pub returns : goal.returns

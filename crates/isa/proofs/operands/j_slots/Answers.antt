@@ -1,4 +1,5 @@
 -- `j_slots` meets its contract.
+use Rattle.std.proofs.Common.{rules}
 use Rattle.isa.proofs.operands.j_slots.Goals as goal
 
 pub returns : goal.returns

@@ -1,4 +1,5 @@
 -- `read_i` meets its contract: by what the opcode stands for.
+use Rattle.std.proofs.Common.{rules}
 use Rattle.isa.specs.Read.{read_i, listed}
 use Rattle.isa.proofs.read.read_i.Goals as goal
 

@@ -1,5 +1,5 @@
 -- `template_of` meets its contract: by the number of the format.
-use Rattle.std.proofs.Common.{ne_eqb}
+use Rattle.std.proofs.Common.{rules, ne_eqb}
 use Rattle.isa.proofs.template.template_of.Goals as goal
 
 pub returns-in-0 : goal.returns-in-0
@@ -22,5 +22,5 @@ returns-in-5 c = rw c.in-5.is c.m_template.ensures
 
 pub returns-in_default : goal.returns-in_default
 returns-in_default c =
-    let n = c.in_default.rest in
+    let n = c.in_default.in_default-own.rest in
     rw (ne_eqb _ 0 n.0.0.0.0.0.1, ne_eqb _ 1 n.0.0.0.0.1, ne_eqb _ 2 n.0.0.0.1, ne_eqb _ 3 n.0.0.1, ne_eqb _ 4 n.0.1, ne_eqb _ 5 n.1)

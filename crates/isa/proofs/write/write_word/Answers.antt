@@ -1,31 +1,7 @@
 -- `write_word` meets its contract: by the instruction's format.
-use Rattle.std.proofs.Common.{sym, ap, ◌∙◌}
+use Rattle.std.proofs.Common.{sym, ap, ◌∙◌, rules}
 use Rattle.isa.specs.Write.{write}
 use Rattle.isa.proofs.write.write_word.Goals as goal
-
-pub enum_known-i : goal.enum_known-i
-unfolding write
-enum_known-i c = c.in-R.keys1
-
-pub enum_known-i-in-I-1 : goal.enum_known-i-in-I-1
-unfolding write
-enum_known-i-in-I-1 c = c.in-I.keys2
-
-pub enum_known-i-in-Movei-1 : goal.enum_known-i-in-Movei-1
-unfolding write
-enum_known-i-in-Movei-1 c = c.in-Movei.keys3
-
-pub enum_known-i-in-J-1 : goal.enum_known-i-in-J-1
-unfolding write
-enum_known-i-in-J-1 c = c.in-J.keys4
-
-pub enum_known-i-in-C-1 : goal.enum_known-i-in-C-1
-unfolding write
-enum_known-i-in-C-1 c = c.in-C.keys5
-
-pub enum_known-i-in-M-1 : goal.enum_known-i-in-M-1
-unfolding write
-enum_known-i-in-M-1 c = c.in-M.keys6
 
 pub returns-in-R : goal.returns-in-R
 unfolding write

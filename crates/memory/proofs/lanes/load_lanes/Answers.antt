@@ -1,5 +1,6 @@
 -- `lanes::load_lanes` meets its contract: the lanes are those at the place of the definition.
 use mathlib.Core.Path.{◌≡◌, sym, ap, ◌∙◌}
+use borrow.Author.Rules.{rules}
 use Rattle.vector.specs.Lanes.{tab}
 use Rattle.memory.specs.Types.{Access}
 use Rattle.memory.specs.Operation.{vector_place, of_lanes, load_lanes}

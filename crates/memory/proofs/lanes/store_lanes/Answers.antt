@@ -1,5 +1,6 @@
 -- `lanes::store_lanes` meets its contract: the lanes are stored at the place of the definition.
 use mathlib.Core.Path.{◌≡◌, sym, ap, ◌∙◌}
+use borrow.Author.Rules.{rules}
 use Rattle.memory.specs.Types.{Access}
 use Rattle.memory.specs.Operation.{vector_place, store_result, store_lanes}
 use Rattle.memory.specs.Attempt.{of_place}

@@ -1,6 +1,7 @@
 -- `bytes::byte` meets its contract.
 use mathlib.Core.Path.{refl}
 use native.Mathlib.Omega.{arith}
+use borrow.Author.Rules.{rules}
 use Rattle.night.proofs.bytes.byte.Goals as goal
 
 pub overflow_cast-result : goal.overflow_cast-result

@@ -1,4 +1,5 @@
 -- `words` meets its contract: by whether the input is a program.
+use borrow.Author.Rules.{rules}
 use mathlib.Core.Path.{sym, ◌∙◌}
 use native.Mathlib.Omega.{arith}
 use lib.ListN.{length}

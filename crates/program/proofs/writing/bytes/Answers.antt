@@ -1,6 +1,7 @@
 -- `bytes` meets its contract: by whether the words are a program.
 use mathlib.Core.Path.{sym, ◌∙◌}
 use native.Mathlib.Omega.{arith}
+use borrow.Author.Rules.{rules}
 use lib.ListN.{length}
 use Rattle.program.proofs.Sizes.{allowed}
 use Rattle.program.specs.Program.{saves}

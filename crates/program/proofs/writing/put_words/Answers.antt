@@ -1,9 +1,10 @@
 -- `put_words` meets its contract: after k turns the bytes of the first k words stand in the buffer.
-use Prim.Native.Nat.{ℕ, ◌-◌}
+use Prim.Native.Nat.{ℕ, ◌+◌, ◌-◌, ◌*◌, ◌≤◌}
 use mathlib.Core.List.{List}
 use mathlib.Core.Path.{◌≡◌, refl, sym, ap, ◌∙◌}
 use native.Mathlib.Numerals.{add-one}
 use native.Mathlib.Omega.{arith}
+use borrow.Author.Rules.{rules}
 use lib.ListN.{length, get_or}
 use Rattle.text.specs.Buffer.{wrote, writes, puts}
 use Rattle.text.proofs.Placing.{next, puts-at, writes-none, length-wrote}

@@ -1,7 +1,10 @@
 -- `some_waits` meets its contract.
 use Prim.Native.Nat.{◌-◌}
-use Rattle.machine.specs.Scheduler.{waits}
-use Rattle.machine.proofs.Loops.{Searching}
+use mathlib.Core.Path.{sym, ◌∙◌}
+use native.Mathlib.Omega.{arith}
+use borrow.Author.Rules.{rules}
+use Rattle.machine.specs.Scheduler.{waits, some_waits}
+use Rattle.machine.proofs.Loops.{Searching, search-start, search-found, search-on, search-done}
 use Rattle.run_record.proofs.scheduling.some_waits.Given as goal
 
 abbrev pub invariant-loop-t : goal.invariant-loop-t

@@ -1,4 +1,5 @@
 -- `start_status` meets its contract.
+use borrow.Author.Rules.{rules}
 use borrow.Author.Tests.{eq-eqb, ne_eqb}
 use Rattle.run_record.proofs.starting.start_status.Goals as goal
 

@@ -1,4 +1,5 @@
 -- `zero` meets its contract.
+use borrow.Author.Rules.{rules}
 use Rattle.run_record.proofs.starting.zero.Goals as goal
 
 pub returns : goal.returns

@@ -1,4 +1,5 @@
 -- `going_on::print_page` is safe: what it prints is a part of the buffer.
+use borrow.Author.Rules.{rules}
 use Rattle.text.proofs.Shown.{shown}
 use Rattle.trace_lines.proofs.Shown.{within}
 use Rattle.runner.proofs.going_on.print_page.Goals as goal

@@ -1,5 +1,8 @@
 -- `going_on::print_rows` is safe, and ends: each page leaves fewer issues.
-use mathlib.Core.Path.{refl, ◌∙◌}
+use mathlib.Core.Path.{◌≡◌, refl, ◌∙◌}
+use native.Mathlib.Omega.{arith}
+use borrow.Author.Rules.{rules}
+use lib.ListN.{length}
 use Rattle.runner.proofs.going_on.print_rows.Goals as goal
 
 pub loop-left-preserved : goal.loop-left-preserved

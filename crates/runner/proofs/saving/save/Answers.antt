@@ -1,5 +1,6 @@
 -- `saving::save` is safe: the image of an allowed memory fits its buffer.
 use Prim.Native.Nat.{◌/◌}
+use borrow.Author.Rules.{rules}
 use native.Mathlib.Omega.{arith}
 use lib.ListN.{length}
 use Rattle.image_layout.proofs.Rows.{whole_length, fixed-few}

@@ -14,6 +14,7 @@ use lib.ListN.{length, drop, get_or}
 use mathlib.Core.List.{◌∷◌}
 use mathlib.Core.Path.{◌≡◌, sym, ap, ◌∙◌}
 use native.Mathlib.Omega.{arith}
+use borrow.Author.Rules.{rules}
 use Rattle.statement.proofs.lines.code_line.Goals as goal
 
 pub word_line-requires : goal.word_line-requires

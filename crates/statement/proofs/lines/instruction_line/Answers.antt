@@ -10,8 +10,10 @@ use Rattle.expression.specs.Grammar.{parse}
 use Rattle.token.specs.Byte.{is_blank}
 use lib.ListN.{drop, get_or}
 use mathlib.Core.Path.{◌≡◌}
+use mathlib.Core.List.{[]}
 use mathlib.Core.Bool.{◌||◌, not, true, false}
 use native.Mathlib.Omega.{arith}
+use borrow.Author.Rules.{rules}
 use Rattle.statement.proofs.lines.instruction_line.Goals as goal
 
 pub returns-then-enough : goal.returns-then-enough

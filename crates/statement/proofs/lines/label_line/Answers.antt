@@ -9,6 +9,7 @@ use borrow.Author.Tests.{not-true, not-false}
 use mathlib.Core.Bool.{true, false}
 use mathlib.Core.Path.{◌≡◌, sym, ap, ◌∙◌}
 use native.Mathlib.Omega.{arith}
+use borrow.Author.Rules.{rules}
 use Rattle.statement.proofs.lines.label_line.Goals as goal
 
 pub returns-then-not-is_label : goal.returns-then-not-is_label

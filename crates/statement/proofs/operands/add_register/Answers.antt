@@ -1,4 +1,5 @@
 -- `add_register` meets its contract.
+use borrow.Author.Rules.{rules}
 use Rattle.statement.proofs.operands.add_register.Goals as goal
 
 pub returns-in-At : goal.returns-in-At

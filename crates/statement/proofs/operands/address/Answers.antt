@@ -1,4 +1,5 @@
 -- `address` meets its contract.
+use borrow.Author.Rules.{rules}
 use Rattle.statement.proofs.operands.address.Goals as goal
 
 pub returns-in-At : goal.returns-in-At

@@ -1,4 +1,5 @@
 -- `base` meets its contract.
+use borrow.Author.Rules.{rules}
 use Rattle.statement.proofs.operands.base.Goals as goal
 
 pub returns-in-Read : goal.returns-in-Read

@@ -1,4 +1,5 @@
 -- `has_operands` meets its contract.
+use borrow.Author.Rules.{rules}
 use Rattle.statement.proofs.operands.has_operands.Goals as goal
 
 pub returns : goal.returns

@@ -1,4 +1,5 @@
 -- `operand` meets its contract.
+use borrow.Author.Rules.{rules}
 use Rattle.statement.proofs.operands.operand.Goals as goal
 
 pub returns-in-ARegister : goal.returns-in-ARegister

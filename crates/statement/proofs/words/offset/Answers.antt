@@ -1,4 +1,5 @@
 -- `offset` meets its contract.
+use borrow.Author.Rules.{rules}
 use Rattle.statement.proofs.words.offset.Goals as goal
 
 pub returns-then-has : goal.returns-then-has

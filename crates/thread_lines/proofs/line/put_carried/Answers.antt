@@ -1,5 +1,6 @@
 -- `put_carried` meets its contract, by the status.
-use mathlib.Core.List.{◌∷◌}
+use borrow.Author.Rules.{rules}
+use mathlib.Core.List.{[], ◌∷◌}
 use Rattle.isa.specs.Text.{bytes}
 use Rattle.text.specs.Buffer.{wrote}
 use Rattle.text.proofs.Parts.{after}

@@ -1,4 +1,5 @@
 -- `put_reason` meets its contract, by the reason.
+use borrow.Author.Rules.{rules}
 use borrow.Author.Tests.{ne_eqb}
 use Rattle.isa.specs.Text.{bytes}
 use Rattle.thread_lines.specs.Lines.{reason}

@@ -1,4 +1,5 @@
 -- `put_unit` meets its contract, by the number.
+use borrow.Author.Rules.{rules}
 use borrow.Author.Tests.{ne_eqb}
 use Rattle.isa.specs.Text.{bytes}
 use Rattle.thread_lines.specs.Lines.{turns_unit}

@@ -1,6 +1,7 @@
 -- `put_off_line` meets its contract: its parts one behind the other, or none.
+use borrow.Author.Rules.{rules}
 use borrow.Author.Tests.{ne_eqb}
-use mathlib.Core.List.{◌∷◌, ◌++◌}
+use mathlib.Core.List.{[], ◌∷◌, ◌++◌}
 use Rattle.isa.specs.Text.{bytes}
 use Rattle.text.specs.Buffer.{wrote}
 use Rattle.text.proofs.Parts.{after}

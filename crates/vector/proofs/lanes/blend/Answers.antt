@@ -2,8 +2,9 @@
 use mathlib.Core.Path.{refl}
 use Prim.Native.Nat.{◌-◌}
 use borrow.Author.Rules.{rules}
-use Rattle.vector.specs.Lanes.{is_on, blended}
-use Rattle.vector.proofs.Filling.{start, more, whole}
+use mathlib.Core.Bool.{cond}
+use Rattle.vector.specs.Lanes.{lane, is_on, blended}
+use Rattle.vector.proofs.Filling.{Filling, start, more, whole}
 use Rattle.vector.proofs.lanes.blend.Goals as goal
 
 pub loop-j-preserved : goal.loop-j-preserved

@@ -1,6 +1,7 @@
 -- `reach_barrier` meets its contract.
 use Prim.Native.Nat.{◌≤◌}
 use native.Mathlib.Omega.{arith}
+use borrow.Author.Rules.{rules}
 use borrow.Author.Tests.{ltb-false}
 use lib.Dec.{ltb}
 use Rattle.machine.specs.Barrier.{refuses_barrier, reach_barrier}

@@ -1,4 +1,5 @@
 -- `Progress::of` meets its contract.
+use Rattle.std.proofs.Common.{rules}
 use Rattle.trace.proofs.tracing.Progress.of.Goals as goal
 
 pub returns : goal.returns
