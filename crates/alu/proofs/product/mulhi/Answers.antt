@@ -9,7 +9,7 @@ pub returns : goal.returns
 returns c =
     difference _ _ _ (search rules) (search rules) c.wrapping_sub_u32.ensures.value
     ∙ ap₂ (binary Sub)
-    (difference _ _ _ (search rules) (search rules) c.wrapping_sub_u32-h.ensures
+    (difference _ _ _ (search rules) (search rules) c.wrapping_sub_u32-h.ensures.value
     ∙ ap₂ (binary Sub) c.mulhu.ensures c.excess.ensures)
     c.excess-2.ensures
     ∙ sym (mulhi-is c.args.x c.args.y (search rules) (search rules))

@@ -13,7 +13,7 @@ pub returns-in-Xor : goal.returns-in-Xor
 returns-in-Xor c = rw c.in-Xor.is
 
 pub returns-in-Add : goal.returns-in-Add
-returns-in-Add c = rw c.in-Add.is c.wrapping_add_u32.ensures
+returns-in-Add c = rw c.in-Add.is c.wrapping_add_u32.ensures.value
 
 pub returns-in-Sub : goal.returns-in-Sub
 returns-in-Sub c = rw c.in-Sub.is (difference _ _ _ (search rules) (search rules) c.wrapping_sub_u32.ensures.value)

@@ -24,7 +24,7 @@ returns c =
     let a = c.args in
     rw (
       ← wrapped a.context a.regs.now (linked a.context a.regs.now) a.offset (search rules) (search rules) (search rules),
-      ← c.wrapping_add_u32-target.ensures,
+      ← c.wrapping_add_u32-target.ensures.value,
       ← c.in_program.ensures,
       c.if-in_program.false,
     )

@@ -8,15 +8,15 @@ use Rattle.ordering.proofs.rows.order_biased.Goals as goal
 pub returns-then-a-b : goal.returns-then-a-b
 returns-then-a-b c =
     is_below _ _ c.if-a-b.true
-    ∙ ap₂ (order Unsigned) c.wrapping_add_u32-a.ensures c.wrapping_add_u32-b.ensures
+    ∙ ap₂ (order Unsigned) c.wrapping_add_u32-a.ensures.value c.wrapping_add_u32-b.ensures.value
 
 pub returns-then-a-b-2 : goal.returns-then-a-b-2
 returns-then-a-b-2 c =
     is-equal _ _ c.if-a-b-2.true
-    ∙ ap₂ (order Unsigned) c.wrapping_add_u32-a.ensures c.wrapping_add_u32-b.ensures
+    ∙ ap₂ (order Unsigned) c.wrapping_add_u32-a.ensures.value c.wrapping_add_u32-b.ensures.value
 
 pub returns : goal.returns
 returns c =
     let x = c.wrapping_add_u32-a in
     let y = c.wrapping_add_u32-b in
-    is-above x.result y.result (omega arith) ∙ ap₂ (order Unsigned) x.ensures y.ensures
+    is-above x.result y.result (omega arith) ∙ ap₂ (order Unsigned) x.ensures.value y.ensures.value

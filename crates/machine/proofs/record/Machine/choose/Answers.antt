@@ -32,9 +32,6 @@ computed m r e h =
       chosen = rw e f.1;
     }
 
-known : (c : tie.After-struct-known) → Computed c.before.before.before.args.self c.before.before.running-mask.result
-known c = computed c.before.before.before.args.self c.before.before.running-mask.result c.before.before.running-mask.ensures c.before.if1.false
-
 pub returns-then-mask-eq0 : goal.returns-then-mask-eq0
 returns-then-mask-eq0 c =
     let m = c.args.self in
@@ -42,24 +39,24 @@ returns-then-mask-eq0 c =
 
 -- the next thread is running
 pub returns-then-mask-following-eq1 : goal.returns-then-mask-following-eq1
-returns-then-mask-following-eq1 c = turn c.args.self _ ((known c).next c.if-mask-following-eq1.true)
+returns-then-mask-following-eq1 c = turn c.args.self _ ((computed c.args.self c.running_mask-mask.result c.running_mask-mask.ensures c.if-mask-eq0.false).next c.if-mask-following-eq1.true)
 
 pub returns : goal.returns
 returns c =
     let m = c.args.self in
-    let k = known c in
+    let k = computed c.args.self c.running_mask-mask.result c.running_mask-mask.ensures c.if-mask-eq0.false in
     let d = count_trailing_zeros 32 (c.running_mask-mask.result * 257 / 2 ^ (m.last % 8 + 1)) + 1 in
     let e : (m.last % 8 + d) % 8 ≡ after m d = omega arith in
     ap (λ (t : ℕ). record { choice = Chosen t d; machine = with_last m t }) e ∙ turn m (Chosen (after m d) d) k.chosen
 
 pub overflow_mul-ahead : goal.overflow_mul-ahead
-overflow_mul-ahead c = let k = known c in omega arith
+overflow_mul-ahead c = let k = computed c.args.self c.running_mask-mask.result c.running_mask-mask.ensures c.if-mask-eq0.false in omega arith
 
 pub overflow_cast-distance : goal.overflow_cast-distance
-overflow_cast-distance c = let k = known c in omega arith
+overflow_cast-distance c = let k = computed c.args.self c.running_mask-mask.result c.running_mask-mask.ensures c.if-mask-eq0.false in omega arith
 
 pub overflow_add-distance : goal.overflow_add-distance
-overflow_add-distance c = let k = known c in omega arith
+overflow_add-distance c = let k = computed c.args.self c.running_mask-mask.result c.running_mask-mask.ensures c.if-mask-eq0.false in omega arith
 
 pub overflow_add-thread : goal.overflow_add-thread
-overflow_add-thread c = let k = known c in omega arith
+overflow_add-thread c = let k = computed c.args.self c.running_mask-mask.result c.running_mask-mask.ensures c.if-mask-eq0.false in omega arith

@@ -14,6 +14,7 @@ use Rattle.machine.proofs.Loops.{Searching, search-start, search-found, search-o
 use Rattle.machine.proofs.Meetings.{other_waits, disputes, waits-nowhere, skips}
 use Rattle.machine.proofs.Tests.{never}
 use Rattle.machine.proofs.record.Machine.others.Goals as goal
+use Rattle.machine.proofs.record.Machine.others.Goals.{then-is_waiting+then-t-thread+else-waits_otherwise, then-is_waiting+else-t-thread, else-is_waiting}
 
 no_both : (a : Bool) → (a && false) ≡ false
 no_both true = refl
@@ -45,18 +46,18 @@ loop-t-preserved c =
     let w = other_waits a.self a.thread a.id in
     let other = not (eqb l.t a.thread) in
     let status = c.status_at-status.ensures in
-    ⊎_elim
-    (λ x.
-    let k : w l.t ≡ true = rw (← status, ← x.1.ensures) x.2.taken in
-    let h : d l.t ≡ false = decided (eqb l.t a.thread) _ _ k ∙ rw (← status, ← x.3.ensures) x.4.left in
-    (omega arith, search-on d l.t l.invariant.1 more h, count-one w l.t l.invariant.2 more k x.5))
-    (⊎_elim
-    (λ x. passed a.self a.thread a.id a.count l.t l.n l.invariant more (rw (← status, ← x.1.ensures) x.2.left) x.3)
-    (λ x.
-    let f : is_waiting (status_at a.self l.t) ≡ false = rw (← status, ← c.is_waiting.ensures) x.0.left in
-    passed a.self a.thread a.id a.count l.t l.n l.invariant more
-    (ap (λ b. other && b) (waits-nowhere a.id (status_at a.self l.t) f) ∙ no_both other) x.1))
-    c.if-is_waiting.branch
+    elim c.if-is_waiting.branch [
+      | then-is_waiting+then-t-thread+else-waits_otherwise x ↦
+          let k : w l.t ≡ true = rw (← status, ← x.waits_at.ensures) x.if-t-thread.true in
+          let h : d l.t ≡ false = decided (eqb l.t a.thread) _ _ k ∙ rw (← status, ← x.waits_otherwise.ensures) x.if-waits_otherwise.false in
+          (omega arith, search-on d l.t l.invariant.1 more h, count-one w l.t l.invariant.2 more k x.n-is)
+      | then-is_waiting+else-t-thread x ↦
+          passed a.self a.thread a.id a.count l.t l.n l.invariant more (rw (← status, ← x.waits_at.ensures) x.if-t-thread.false) x.n-is
+      | else-is_waiting x ↦
+          let f : is_waiting (status_at a.self l.t) ≡ false = rw (← status, ← c.is_waiting.ensures) x.if-is_waiting.false in
+          passed a.self a.thread a.id a.count l.t l.n l.invariant more
+          (ap (λ b. other && b) (waits-nowhere a.id (status_at a.self l.t) f) ∙ no_both other) x.n-is
+    ]
 
 pub returns-then-waits_otherwise : goal.returns-then-waits_otherwise
 returns-then-waits_otherwise c =

@@ -11,13 +11,9 @@ use Rattle.machine.specs.Scheduler.{runs}
 use Rattle.machine.specs.Search.{mask_of}
 use Rattle.machine.proofs.Loops.{from}
 use Rattle.machine.proofs.Nearest.{mask_of-lt}
+use Rattle.machine.proofs.record.Machine.running_mask.Invariants.{Masked}
+use Rattle.machine.proofs.record.Machine.running_mask.Goals.{then-is_running, else-is_running}
 use Rattle.machine.proofs.record.Machine.running_mask.Goals as goal
-
--- the mask of the threads passed, j of them, from the last thread down
-record Masked (p : ℕ → Bool) (j mask : ℕ) : Type 0 where
-  few : j ≤ 8
-  small : mask ≤ 255
-  same : mask ≡ mask_of p (from (8 - j) j)
 
 plus-bit : (b : Bool) (n : ℕ) → cond b (n + 1) n ≡ n + cond b 1 0
 plus-bit true n = refl
@@ -45,8 +41,10 @@ loop-passed-preserved c =
     let m = c.args.self in
     let left = c.loop-passed-test.true in
     let e : runs m (7 - l.passed) ≡ c.is_running.result = rw (← c.status_at-status.ensures, ← c.is_running.ensures) in
-    ⊎_elim (λ x. one_more (runs m) l.passed true l.invariant left (e ∙ x.0.taken) x.1)
-    (λ x. one_more (runs m) l.passed false l.invariant left (e ∙ x.0.left) x.1) c.if-is_running.branch
+    elim c.if-is_running.branch [
+      | then-is_running w ↦ one_more (runs m) l.passed true l.invariant left (e ∙ w.if-is_running.true) w.mask-is
+      | else-is_running w ↦ one_more (runs m) l.passed false l.invariant left (e ∙ w.if-is_running.false) w.mask-is
+    ]
 
 pub returns : goal.returns
 unfolding from

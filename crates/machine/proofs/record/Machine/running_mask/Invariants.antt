@@ -14,10 +14,10 @@ use Rattle.machine.proofs.Nearest.{mask_of-lt}
 use Rattle.machine.proofs.record.Machine.running_mask.Given as goal
 
 -- the mask of the threads passed, j of them, from the last thread down
-record Masked (p : ℕ → Bool) (j mask : ℕ) : Type 0 where
-  few : j ≤ 8
-  small : mask ≤ 255
-  same : mask ≡ mask_of p (from (8 - j) j)
+pub record Masked (p : ℕ → Bool) (j mask : ℕ) : Type 0 where
+  pub few : j ≤ 8
+  pub small : mask ≤ 255
+  pub same : mask ≡ mask_of p (from (8 - j) j)
 
 abbrev pub invariant-loop-passed : goal.invariant-loop-passed
 invariant-loop-passed l = Masked (runs l.self) l.passed l.mask

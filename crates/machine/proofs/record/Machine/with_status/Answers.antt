@@ -14,11 +14,11 @@ pub loop-t-preserved : goal.loop-t-preserved
 loop-t-preserved c =
     let l = c.loop-t in
     let a = c.args in
-    (omega arith, rw (c.new-next.ensures, c.either.ensures) (placed-step a.t1 a.thread a.status l.t l.self l.invariant.1))
+    (omega arith, rw (c.new-next.ensures, c.either.ensures) (placed-step a.self a.thread a.status l.t l.self l.invariant.1))
 
 pub returns : goal.returns
 returns c =
     let l = c.loop-t in
     let a = c.args in
-    let eight : length a.t1.threads ≡ 8 = sym (length-map a.t1.threads _) ∙ c.well-formed.0.1.1.1.0.1.0.1 in
-    placed_end a.t1 a.thread a.status l.t l.self l.invariant.1 (omega arith)
+    let eight : length a.self.threads ≡ 8 = c.well_formed.0.1.1.1.0.1.0.1 in
+    placed_end a.self a.thread a.status l.t l.self l.invariant.1 (omega arith)
