@@ -35,7 +35,7 @@ pub word-requires : goal.word-requires
 word-requires c =
     let test = c.in_program in
     let pc = c.scalar-pc in
-    let h = fitting _ _ _ (sym c.fits2.ensures ∙ not-false c.fits2.result c.if-not-fits.false) in (
+    let h = fitting _ _ _ (sym c.fits2.ensures ∙ c.if-not-fits.false) in (
       (h.1, h.2),
       h.0,
       omega (
@@ -53,5 +53,5 @@ returns c =
     let pc = c.scalar-pc in
     let a = c.args in
     tries-issue a.program.now a.thread a.regs.now a.memory.now
-    (sym c.fits2.ensures ∙ not-false c.fits2.result c.if-not-fits.false)
+    (sym c.fits2.ensures ∙ c.if-not-fits.false)
     pc.result pc.ensures (sym test.ensures ∙ not-false test.result c.if-not-in_program.false) w.result _ _ w.ensures

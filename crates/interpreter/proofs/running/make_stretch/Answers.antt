@@ -94,7 +94,7 @@ returns-in-Chosen c =
 
 pub overflow_add-result : goal.overflow_add-result
 overflow_add-result c =
-    let k = rw (not-true c.make_fast_issues-fast.result.deferred c.if-not-deferred.true) at (came c) in
+    let k = rw (c.if-not-deferred.true) at (came c) in
     omega (arith, c.ranges.left, carried-within _ _ _ _ _ _ k.0.carried)
 
 pub overflow_add-result-in-Chosen : goal.overflow_add-result-in-Chosen

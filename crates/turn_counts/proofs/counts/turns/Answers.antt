@@ -27,16 +27,16 @@ loop-read-init c = (omega arith, refl, refl)
 pub loop-read-preserved : goal.loop-read-preserved
 loop-read-preserved c =
     let l = c.loop-read in
-    let m = c.args.t1 in
-    let eight : length m.threads ≡ 8 = sym (length-map m.threads _) ∙ c.well-formed.0.1.1.1.0.1.0.1 in
+    let m = c.args.machine in
+    let eight : length m.threads ≡ 8 = c.well_formed.0.1.1.1.0.1.0.1 in
     let more = filled m l.turns l.read (omega (arith, l.invariant.1)) (omega (arith, eight)) l.invariant.2 in
     (omega arith, length-set l.turns l.read (turns_at m l.read) ∙ l.invariant.1, more)
 
 pub returns : goal.returns
 returns c =
     let l = c.loop-read in
-    let m = c.args.t1 in
-    let eight : length m.threads ≡ 8 = sym (length-map m.threads _) ∙ c.well-formed.0.1.1.1.0.1.0.1 in (
+    let m = c.args.machine in
+    let eight : length m.threads ≡ 8 = c.well_formed.0.1.1.1.0.1.0.1 in (
       sym (take_all l.read l.turns (omega (arith, l.invariant.1)))
           ∙ (l.invariant.2 ∙ take_all l.read (turns_of m) (omega (arith, eight, turns-length m))),
       l.invariant.1,

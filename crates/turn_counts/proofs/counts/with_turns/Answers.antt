@@ -22,15 +22,15 @@ pub loop-put-preserved : goal.loop-put-preserved
 loop-put-preserved c =
     let l = c.loop-put in
     let a = c.args in
-    let eight : length a.t1.threads ≡ 8 = sym (length-map a.t1.threads _) ∙ c.well-formed.0.1.1.1.0.1.0.1 in
-    let next = ap (put a.t2 l.put) l.invariant.1 ∙ change (recounting a.t2) a.t1 l.put (omega (arith, eight)) in
+    let eight : length a.machine.threads ≡ 8 = c.well_formed.0.1.1.1.0.1.0.1 in
+    let next = ap (put a.turns l.put) l.invariant.1 ∙ change (recounting a.turns) a.machine l.put (omega (arith, eight)) in
     (omega arith, rw c.new-next.ensures next)
 
 pub returns : goal.returns
 returns c =
     let l = c.loop-put in
     let a = c.args in
-    let eight : length a.t1.threads ≡ 8 = sym (length-map a.t1.threads _) ∙ c.well-formed.0.1.1.1.0.1.0.1 in
-    let e : l.put ≡ length a.t1.threads = omega arith in
-    l.invariant.1 ∙ ap (λ xs. record { enabled = a.t1.enabled; last = a.t1.last; threads = xs })
-    (ap (changed (recounting a.t2) a.t1.threads) e ∙ recounted a.t2 a.t1.threads)
+    let eight : length a.machine.threads ≡ 8 = c.well_formed.0.1.1.1.0.1.0.1 in
+    let e : l.put ≡ length a.machine.threads = omega arith in
+    l.invariant.1 ∙ ap (λ xs. record { enabled = a.machine.enabled; last = a.machine.last; threads = xs })
+    (ap (changed (recounting a.turns) a.machine.threads) e ∙ recounted a.turns a.machine.threads)

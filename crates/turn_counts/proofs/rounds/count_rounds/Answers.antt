@@ -15,6 +15,7 @@ use Rattle.machine.specs.Scheduler.{runs}
 use Rattle.machine.specs.declared.record.Machine.{Machine}
 use Rattle.machine.proofs.Loops.{changed, changed-next, changed-suc}
 use Rattle.turn_counts.proofs.rounds.count_rounds.Goals as goal
+use Rattle.turn_counts.proofs.rounds.count_rounds.Goals.{then-running, else-running}
 
 -- a thread's count with its issues
 abbrev with : Machine → ℕ → ℕ → ℕ → ℕ
@@ -53,31 +54,32 @@ module _ (m : Machine) (passed : ℕ) (first : List ℕ) (t : ℕ) (turns : List
 
 pub loop-thread-init : goal.loop-thread-init
 unfolding changed
-loop-thread-init c = (omega arith, c.well-formed.1.0.1.0.1, refl)
+loop-thread-init c = (omega arith, c.well_formed.1.0.1.0.1, refl)
 
 pub loop-thread-preserved : goal.loop-thread-preserved
 loop-thread-preserved c =
     let l = c.loop-thread in
     let a = c.args in
-    let small : l.thread < length a.t2 = omega (arith, c.well-formed.1.0.1.0.1) in
-    let e : runs a.t1 l.thread ≡ c.is_running-running.result = rw (← c.is_running-running.ensures) in
-    ⊎_elim
-    (λ x. (
-      omega arith,
-      ap length x.3 ∙ length-set l.turns l.thread _ ∙ l.invariant.1,
-      x.3 ∙ ap (set l.turns l.thread) (rw (x.1.ensures, rounds-in-two a.passed (between a.t1 l.thread) (omega arith)) at x.2.ensures)
-          ∙ counts a.t1 a.passed a.t2 l.thread l.turns small l.invariant.2 (e ∙ x.0.taken),
-    ))
-    (λ x. (
-      omega arith,
-      ap length x.1 ∙ l.invariant.1,
-      x.1 ∙ stays a.t1 a.passed a.t2 l.thread l.turns small l.invariant.2 (e ∙ x.0.left),
-    ))
-    c.if-running.branch
+    let small : l.thread < length a.turns = omega (arith, c.well_formed.1.0.1.0.1) in
+    let e : runs a.machine l.thread ≡ c.is_running-running.result = rw (← c.is_running-running.ensures) in
+    elim c.if-running.branch [
+      | then-running x ↦ (
+        omega arith,
+        ap length x.turns-is ∙ length-set l.turns l.thread _ ∙ l.invariant.1,
+        x.turns-is ∙ ap (set l.turns l.thread)
+            (rw (x.between.ensures, rounds-in-two a.passed (between a.machine l.thread) (omega arith)) at x.many_more-has.ensures)
+            ∙ counts a.machine a.passed a.turns l.thread l.turns small l.invariant.2 (e ∙ x.if-running.true),
+      )
+      | else-running x ↦ (
+        omega arith,
+        ap length x.turns-is ∙ l.invariant.1,
+        x.turns-is ∙ stays a.machine a.passed a.turns l.thread l.turns small l.invariant.2 (e ∙ x.if-running.false),
+      )
+    ]
 
 pub returns : goal.returns
 returns c =
     let l = c.loop-thread in
     let a = c.args in
-    let e : l.thread ≡ length a.t2 = omega (arith, c.well-formed.1.0.1.0.1) in
-    l.invariant.2 ∙ ap (changed (with a.t1 a.passed) a.t2) e ∙ all-with (issues_within a.t1 a.passed) a.t2
+    let e : l.thread ≡ length a.turns = omega (arith, c.well_formed.1.0.1.0.1) in
+    l.invariant.2 ∙ ap (changed (with a.machine a.passed) a.turns) e ∙ all-with (issues_within a.machine a.passed) a.turns

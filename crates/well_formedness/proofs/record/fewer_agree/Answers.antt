@@ -8,18 +8,19 @@ use borrow.Author.Rules.{rules}
 use Rattle.machine.proofs.Loops.{Searching, search-start, search-found, search-on, search-done, Counting, count-start, count-one, count-on, count-done}
 use Rattle.machine.proofs.Meetings.{disputes, waits_here}
 use Rattle.well_formedness.proofs.record.fewer_agree.Goals as goal
+use Rattle.well_formedness.proofs.record.fewer_agree.Goals.{then-waits_at, else-waits_at}
 
 pub loop-t-init : goal.loop-t-init
 loop-t-init c =
     let a = c.args in
-    (search-start (disputes a.t1 a.thread a.id a.count), count-start (waits_here a.t1 a.id))
+    (search-start (disputes a.machine a.thread a.id a.count), count-start (waits_here a.machine a.id))
 
 -- thread t disputes
 pub returns-then-t-thread : goal.returns-then-t-thread
 returns-then-t-thread c =
     let l = c.loop-t in
     let a = c.args in
-    let d = disputes a.t1 a.thread a.id a.count in
+    let d = disputes a.machine a.thread a.id a.count in
     let h : d l.t ≡ true =
     rw (← c.waits_otherwise.ensures) c.if-t-thread.true in
     rw (search-found d l.t l.invariant.0 c.loop-t-test.true h)
@@ -28,15 +29,17 @@ pub loop-t-preserved : goal.loop-t-preserved
 loop-t-preserved c =
     let l = c.loop-t in
     let a = c.args in
-    let d = disputes a.t1 a.thread a.id a.count in
-    let w = waits_here a.t1 a.id in
+    let d = disputes a.machine a.thread a.id a.count in
+    let w = waits_here a.machine a.id in
     let more = c.loop-t-test.true in
     let h : d l.t ≡ false =
     rw (← c.waits_otherwise.ensures) c.if-t-thread.false in
     let e : w l.t ≡ c.waits_at.result = rw (← c.waits_at.ensures) in (
       search-on d l.t l.invariant.0 more h,
-      ⊎_elim (λ x. count-one w l.t l.invariant.1 more (e ∙ x.0.taken) x.1)
-          (λ x. count-on w l.t l.invariant.1 more (e ∙ x.0.left) x.1) c.if-waits_at.branch,
+      elim c.if-waits_at.branch [
+        | then-waits_at x ↦ count-one w l.t l.invariant.1 more (e ∙ x.if-waits_at.true) x.n-is
+        | else-waits_at x ↦ count-on w l.t l.invariant.1 more (e ∙ x.if-waits_at.false) x.n-is
+      ],
     )
 
 pub returns : goal.returns
@@ -44,6 +47,6 @@ returns c =
     let l = c.loop-t in
     let a = c.args in
     rw (
-      search-done (disputes a.t1 a.thread a.id a.count) l.t l.invariant.0 c.loop-t-test.false,
-      count-done (waits_here a.t1 a.id) l.t l.invariant.1 c.loop-t-test.false,
+      search-done (disputes a.machine a.thread a.id a.count) l.t l.invariant.0 c.loop-t-test.false,
+      count-done (waits_here a.machine a.id) l.t l.invariant.1 c.loop-t-test.false,
     )

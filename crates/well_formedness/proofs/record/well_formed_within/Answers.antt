@@ -22,7 +22,7 @@ pub loop-thread-init : goal.loop-thread-init
 unfolding from
 loop-thread-init c =
     let a = c.args in
-    let eight : length a.machine.threads ≡ 8 = sym (length-map a.machine.threads _) ∙ c.well-formed.0.1.1.1.0.1.0.1 in
+    let eight : length a.machine.threads ≡ 8 = c.well_formed.0.1.1.1.0.1.0.1 in
     by_entries a.limits a.machine (omega (arith, c.if-enabled-eq0.false)) (omega arith) (omega arith) eight
 
 -- an entry is not in order
@@ -31,7 +31,7 @@ unfolding all
 returns-then-not-fine c =
     let l = c.loop-thread in
     let a = c.args in
-    let h : in_order a.limits a.machine l.thread ≡ false = sym c.entry_in_order-fine.ensures ∙ not-true c.entry_in_order-fine.result c.if-not-fine.true in
+    let h : in_order a.limits a.machine l.thread ≡ false = sym c.entry_in_order-fine.ensures ∙ c.if-not-fine.true in
     sym (l.invariant ∙ look (all (in_order a.limits a.machine)) l.thread 8 c.loop-thread-test.true (rw h))
 
 pub loop-thread-preserved : goal.loop-thread-preserved
@@ -39,7 +39,7 @@ unfolding all
 loop-thread-preserved c =
     let l = c.loop-thread in
     let a = c.args in
-    let h : in_order a.limits a.machine l.thread ≡ true = sym c.entry_in_order-fine.ensures ∙ not-false c.entry_in_order-fine.result c.if-not-fine.false in
+    let h : in_order a.limits a.machine l.thread ≡ true = sym c.entry_in_order-fine.ensures ∙ c.if-not-fine.false in
     l.invariant ∙ look (all (in_order a.limits a.machine)) l.thread 8 c.loop-thread-test.true (rw h)
 
 pub returns : goal.returns
