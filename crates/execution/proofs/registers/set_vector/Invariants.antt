@@ -7,7 +7,7 @@ use Rattle.memory.proofs.Stepping.{Stepping, start, more, whole}
 use Rattle.execution.proofs.registers.set_vector.Given as goal
 
 abbrev pub invariant-loop-j : goal.invariant-loop-j
-invariant-loop-j l = Stepping 16 (λ k l. set l (lane_index l.t l.i k) (lane l.v k)) l.initial.regs l.regs l.j
+invariant-loop-j l = Stepping 16 (λ k xs. set xs (lane_index l.t l.i k) (lane l.v k)) l.initial.regs l.regs l.j
 
 abbrev pub decreases-loop-j : goal.decreases-loop-j
 decreases-loop-j l = 16 - l.j

@@ -8,22 +8,19 @@ use Rattle.memory.specs.Attempt.{of_place}
 use Rattle.memory.proofs.Places.{within}
 use Rattle.memory.proofs.lanes.load_lanes.Goals as goal
 
-goes : (c : tie.After-locate) → let a = c.before.before.args in vector_place a.memory.now a.base a.offset ≡ of_place c.locate.result
-goes c = sym c.locate.ensures
-
 pub read_lanes-requires : goal.read_lanes-requires
-read_lanes-requires c = within _ _ _ _ (goes c ∙ ap of_place c.in-At.is)
+read_lanes-requires c = within _ _ _ _ (sym c.locate-from.ensures ∙ ap of_place c.in-At.is)
 
 pub returns-in-At : goal.returns-in-At
 unfolding load_lanes
 returns-in-At c =
-    rw (goes c ∙ ap of_place c.in-At.is)
+    rw (sym c.locate-from.ensures ∙ ap of_place c.in-At.is)
     (ap (λ l. of_lanes (record { access = Access.Done; lanes = l })) c.read_lanes.ensures)
 
 pub returns-in-Misaligned : goal.returns-in-Misaligned
 unfolding load_lanes tab
-returns-in-Misaligned c = rw (goes c ∙ ap of_place c.in-Misaligned.is)
+returns-in-Misaligned c = rw (sym c.locate-from.ensures ∙ ap of_place c.in-Misaligned.is)
 
 pub returns-in-Outside : goal.returns-in-Outside
 unfolding load_lanes tab
-returns-in-Outside c = rw (goes c ∙ ap of_place c.in-Outside.is)
+returns-in-Outside c = rw (sym c.locate-from.ensures ∙ ap of_place c.in-Outside.is)

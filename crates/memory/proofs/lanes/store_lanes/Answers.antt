@@ -7,22 +7,19 @@ use Rattle.memory.specs.Attempt.{of_place}
 use Rattle.memory.proofs.Places.{within}
 use Rattle.memory.proofs.lanes.store_lanes.Goals as goal
 
-goes : (c : tie.After-locate) → let a = c.before.before.args in vector_place a.memory.now a.base a.offset ≡ of_place c.locate.result
-goes c = sym c.locate.ensures
-
 pub write_lanes-requires : goal.write_lanes-requires
-write_lanes-requires c = within _ _ _ _ (goes c ∙ ap of_place c.in-At.is)
+write_lanes-requires c = within _ _ _ _ (sym c.locate-to.ensures ∙ ap of_place c.in-At.is)
 
 pub returns-in-At : goal.returns-in-At
 unfolding store_lanes
 returns-in-At c =
-    rw (goes c ∙ ap of_place c.in-At.is)
+    rw (sym c.locate-to.ensures ∙ ap of_place c.in-At.is)
     (ap (store_result Access.Done) c.write_lanes.ensures)
 
 pub returns-in-Misaligned : goal.returns-in-Misaligned
 unfolding store_lanes
-returns-in-Misaligned c = rw (goes c ∙ ap of_place c.in-Misaligned.is)
+returns-in-Misaligned c = rw (sym c.locate-to.ensures ∙ ap of_place c.in-Misaligned.is)
 
 pub returns-in-Outside : goal.returns-in-Outside
 unfolding store_lanes
-returns-in-Outside c = rw (goes c ∙ ap of_place c.in-Outside.is)
+returns-in-Outside c = rw (sym c.locate-to.ensures ∙ ap of_place c.in-Outside.is)

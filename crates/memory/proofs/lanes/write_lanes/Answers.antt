@@ -10,7 +10,7 @@ use Rattle.memory.proofs.lanes.write_lanes.Goals as goal
 
 pub loop-j-preserved : goal.loop-j-preserved
 loop-j-preserved c =
-    more c.loop-j.invariant (search rules) c.write_lane.auto.0
+    more c.loop-j.invariant (search rules) c.write_lane.auto.memory
     (rw c.is_on.ensures at c.write_lane.ensures)
 
 pub returns : goal.returns

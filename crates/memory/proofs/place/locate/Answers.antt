@@ -12,19 +12,13 @@ overflow_add-inside c =
     let a = c.args in
     omega (arith, c.biased-address.ensures, biased-lt a.base a.offset (search rules) (search rules))
 
--- the place is that of the address which the code has
-same : (c : tie.After-is-multiple) →
-    let a = c.before.before.args in
-    place a.alignment a.size a.length c.before.biased.result ≡ place a.alignment a.size a.length (biased a.base a.offset)
-same c = let a = c.before.before.args in ap (place a.alignment a.size a.length) c.before.biased.ensures
-
 pub returns-then-not-multiple : goal.returns-then-not-multiple
-returns-then-not-multiple c = sym (when-misaligned _ _ _ _ (sym c.is_multiple-multiple.ensures ∙ c.if-not-multiple.true)) ∙ same c
+returns-then-not-multiple c = sym (when-misaligned _ _ _ _ (sym c.is_multiple-multiple.ensures ∙ c.if-not-multiple.true)) ∙ ap (place c.args.alignment c.args.size c.args.length) c.biased-address.ensures
 
 pub returns-then-not-inside : goal.returns-then-not-inside
 returns-then-not-inside c =
     sym (when-outside _ _ _ _ (sym c.is_multiple-multiple.ensures ∙ c.if-not-multiple.false) (c.if-not-inside.true))
-    ∙ same c
+    ∙ ap (place c.args.alignment c.args.size c.args.length) c.biased-address.ensures
 
 pub overflow_sub-result : goal.overflow_sub-result
 overflow_sub-result c = low-enough _ _ _ (c.if-not-inside.false)
@@ -32,4 +26,4 @@ overflow_sub-result c = low-enough _ _ _ (c.if-not-inside.false)
 pub returns : goal.returns
 returns c =
     sym (when-good _ _ _ _ (sym c.is_multiple-multiple.ensures ∙ c.if-not-multiple.false) (c.if-not-inside.false))
-    ∙ same c
+    ∙ ap (place c.args.alignment c.args.size c.args.length) c.biased-address.ensures

@@ -11,22 +11,17 @@ pub locate-place-requires : goal.locate-place-requires
 locate-place-requires c =
     omega (arith, c.bytes_loaded-size.ensures, (loaded-size c.args.op).some, (loaded-size c.args.op).few)
 
-goes : (c : tie.After-locate) →
-    let a = c.before.before.before.args in
-    scalar_place (bytes_loaded a.op) a.memory.now a.base a.offset ≡ of_place c.locate.result
-goes c = let a = c.before.before.before.args in found a.memory.now a.base a.offset c.before.bytes-loaded.ensures c.locate.ensures
-
 pub read-requires : goal.read-requires
-read-requires c = within _ _ _ _ (goes c ∙ ap of_place c.in-At.is)
+read-requires c = within _ _ _ _ (found c.args.memory.now c.args.base c.args.offset c.bytes_loaded-size.ensures c.locate-place.ensures ∙ ap of_place c.in-At.is)
 
 pub returns-in-At : goal.returns-in-At
 unfolding load
-returns-in-At c = rw (goes c ∙ ap of_place c.in-At.is) (ap done c.read.ensures)
+returns-in-At c = rw (found c.args.memory.now c.args.base c.args.offset c.bytes_loaded-size.ensures c.locate-place.ensures ∙ ap of_place c.in-At.is) (ap done c.read.ensures)
 
 pub returns-in-Misaligned : goal.returns-in-Misaligned
 unfolding load
-returns-in-Misaligned c = rw (goes c ∙ ap of_place c.in-Misaligned.is)
+returns-in-Misaligned c = rw (found c.args.memory.now c.args.base c.args.offset c.bytes_loaded-size.ensures c.locate-place.ensures ∙ ap of_place c.in-Misaligned.is)
 
 pub returns-in-Outside : goal.returns-in-Outside
 unfolding load
-returns-in-Outside c = rw (goes c ∙ ap of_place c.in-Outside.is)
+returns-in-Outside c = rw (found c.args.memory.now c.args.base c.args.offset c.bytes_loaded-size.ensures c.locate-place.ensures ∙ ap of_place c.in-Outside.is)

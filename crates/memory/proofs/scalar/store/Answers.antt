@@ -12,24 +12,19 @@ pub locate-place-requires : goal.locate-place-requires
 locate-place-requires c =
     omega (arith, c.bytes_stored-size.ensures, (stored-size c.args.op).some, (stored-size c.args.op).few)
 
-goes : (c : tie.After-locate) →
-    let a = c.before.before.before.args in
-    scalar_place (bytes_stored a.op) a.memory.now a.base a.offset ≡ of_place c.locate.result
-goes c = let a = c.before.before.before.args in found a.memory.now a.base a.offset c.before.bytes-stored.ensures c.locate.ensures
-
 pub write-requires : goal.write-requires
-write-requires c = within _ _ _ _ (goes c ∙ ap of_place c.in-At.is)
+write-requires c = within _ _ _ _ (found c.args.memory.now c.args.base c.args.offset c.bytes_stored-size.ensures c.locate-place.ensures ∙ ap of_place c.in-At.is)
 
 pub returns-in-At : goal.returns-in-At
 unfolding store
 returns-in-At c =
-    rw (goes c ∙ ap of_place c.in-At.is)
+    rw (found c.args.memory.now c.args.base c.args.offset c.bytes_stored-size.ensures c.locate-place.ensures ∙ ap of_place c.in-At.is)
     (ap (store_result Access.Done) c.write.ensures)
 
 pub returns-in-Misaligned : goal.returns-in-Misaligned
 unfolding store
-returns-in-Misaligned c = rw (goes c ∙ ap of_place c.in-Misaligned.is)
+returns-in-Misaligned c = rw (found c.args.memory.now c.args.base c.args.offset c.bytes_stored-size.ensures c.locate-place.ensures ∙ ap of_place c.in-Misaligned.is)
 
 pub returns-in-Outside : goal.returns-in-Outside
 unfolding store
-returns-in-Outside c = rw (goes c ∙ ap of_place c.in-Outside.is)
+returns-in-Outside c = rw (found c.args.memory.now c.args.base c.args.offset c.bytes_stored-size.ensures c.locate-place.ensures ∙ ap of_place c.in-Outside.is)
