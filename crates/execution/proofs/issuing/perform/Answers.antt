@@ -14,7 +14,7 @@ returns-then-not-in_program c =
     let a = c.args in
     rw c.trap.ensures
     (performs-outside a.program.now (state a.machine a.registers.now a.memory.now) a.t a.turns pc.result pc.ensures
-    (sym test.ensures ∙ not-true test.result c.if-not-in_program.true))
+    (sym test.ensures ∙ c.if-not-in_program.true))
 
 pub bounds-program-pc : goal.bounds-program-pc
 bounds-program-pc c =
@@ -22,7 +22,7 @@ bounds-program-pc c =
     omega (
       arith,
       before-end (length c.args.program.now) c.scalar-pc.result
-          (sym test.ensures ∙ not-false test.result c.if-not-in_program.false),
+          (sym test.ensures ∙ c.if-not-in_program.false),
     )
 
 pub word-effect-requires : goal.word-effect-requires
@@ -35,7 +35,7 @@ word-effect-requires c =
         arith,
         c.requires.1,
         before-end (length c.args.program.now) pc.result
-            (sym test.ensures ∙ not-false test.result c.if-not-in_program.false),
+            (sym test.ensures ∙ c.if-not-in_program.false),
       ),
     )
 
@@ -48,7 +48,7 @@ settle-requires c =
         arith,
         c.requires.1,
         before-end (length c.args.program.now) pc.result
-            (sym test.ensures ∙ not-false test.result c.if-not-in_program.false),
+            (sym test.ensures ∙ c.if-not-in_program.false),
       ),
     )
 
@@ -60,5 +60,5 @@ returns c =
     let pc = c.scalar-pc in
     let a = c.args in
     performs-word a.program.now (state a.machine a.registers.now a.memory.now) a.t a.turns pc.result pc.ensures
-    (sym test.ensures ∙ not-false test.result c.if-not-in_program.false)
+    (sym test.ensures ∙ c.if-not-in_program.false)
     _ w.ensures c.settle.result _ c.settle.ensures

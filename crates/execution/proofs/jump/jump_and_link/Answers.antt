@@ -11,7 +11,7 @@ returns-then-in_program c =
     let a = c.args in
     rw (
       ← wrapped a.context a.regs.now (linked a.context a.regs.now) a.offset (search rules) (search rules) (search rules),
-      ← sum.ensures,
+      ← sum.ensures.value,
       ← c.in_program.ensures,
       c.if-in_program.true,
       c.set_scalar-then-in_program.ensures,

@@ -5,7 +5,7 @@ use Rattle.execution.proofs.operation.compare.Goals as goal
 
 pub returns-then-is_vector : goal.returns-then-is_vector
 unfolding compare_into
-returns-then-is_vector c = rw (← c.is_vector.ensures, ← c.is_vector-2.ensures, c.if-is_vector.true, c.set_scalar.ensures, c.compare_lanes.ensures, c.scalar-mask.ensures, c.lanes-x.ensures, c.lanes-x.ensures)
+returns-then-is_vector c = rw (← c.is_vector.ensures, ← c.is_vector-2.ensures, c.if-is_vector.true, c.set_scalar.ensures, c.compare_lanes.ensures, c.scalar-mask.ensures, c.lanes-y.ensures, c.lanes-x.ensures)
 
 pub returns-else-is_vector : goal.returns-else-is_vector
 unfolding compare_into

@@ -10,7 +10,7 @@ pub scalar-pc-requires : goal.scalar-pc-requires
 scalar-pc-requires c =
     let test = c.fits2 in
     let a = c.args in
-    let fit = sym test.ensures ∙ not-false test.result c.if-not-fits.false in
+    let fit = sym test.ensures ∙ c.if-not-fits.false in
     let h = fitting (length a.program.now) (length a.regs.now) a.thread fit in
     ((h.1, h.2), omega arith)
 
@@ -19,7 +19,7 @@ in_program-requires c =
     let test = c.fits2 in
     let a = c.args in
     (fitting (length a.program.now) (length a.regs.now) a.thread
-    (sym test.ensures ∙ not-false test.result c.if-not-fits.false)).0
+    (sym test.ensures ∙ c.if-not-fits.false)).0
 
 pub bounds-program-pc : goal.bounds-program-pc
 bounds-program-pc c =
@@ -28,7 +28,7 @@ bounds-program-pc c =
     omega (
       arith,
       before-end (length c.args.program.now) pc.result
-          (sym test.ensures ∙ not-false test.result c.if-not-in_program.false),
+          (sym test.ensures ∙ c.if-not-in_program.false),
     )
 
 pub word-requires : goal.word-requires
@@ -42,7 +42,7 @@ word-requires c =
         arith,
         h.0,
         before-end (length c.args.program.now) pc.result
-            (sym test.ensures ∙ not-false test.result c.if-not-in_program.false),
+            (sym test.ensures ∙ c.if-not-in_program.false),
       ),
     )
 
@@ -54,4 +54,4 @@ returns c =
     let a = c.args in
     tries-issue a.program.now a.thread a.regs.now a.memory.now
     (sym c.fits2.ensures ∙ c.if-not-fits.false)
-    pc.result pc.ensures (sym test.ensures ∙ not-false test.result c.if-not-in_program.false) w.result _ _ w.ensures
+    pc.result pc.ensures (sym test.ensures ∙ c.if-not-in_program.false) w.result _ _ w.ensures

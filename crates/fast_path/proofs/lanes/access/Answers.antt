@@ -8,7 +8,7 @@ load-requires c =
     let on = c.all_on in (
       search rules,
       search rules,
-      sym on.ensures ∙ not-false on.result c.if-not-all_on.false,
+      sym on.ensures ∙ c.if-not-all_on.false,
       search rules,
       sym c.flags_i.ensures ∙ c.if-flags_i-ne0.false,
     )
@@ -18,7 +18,7 @@ store-requires c =
     let on = c.all_on in (
       search rules,
       search rules,
-      sym on.ensures ∙ not-false on.result c.if-not-all_on.false,
+      sym on.ensures ∙ c.if-not-all_on.false,
       search rules,
       sym c.flags_i.ensures ∙ c.if-flags_i-ne0.false,
     )

@@ -8,6 +8,6 @@ combine_number-requires c =
     let on = c.all_on in (
       c.requires.0,
       c.requires.1,
-      sym on.ensures ∙ not-false on.result c.if-not-all_on.false,
+      sym on.ensures ∙ c.if-not-all_on.false,
       rw c.vector_a-x.ensures c.requires.2,
     )

@@ -10,6 +10,6 @@ combine_vectors-requires c =
     let on = c.all_on in (
       c.requires.0,
       c.requires.1,
-      sym on.ensures ∙ not-false on.result c.if-not-all_on.false,
+      sym on.ensures ∙ c.if-not-all_on.false,
       rw (c.vector_b-y.ensures, c.vector_a-x.ensures) (combines-vectors a.t a.regs.now a.w c.requires.4 c.requires.2 c.requires.3),
     )

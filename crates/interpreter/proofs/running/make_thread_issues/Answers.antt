@@ -21,7 +21,7 @@ pub returns-then-not-done : goal.returns-then-not-done
 returns-then-not-done c =
     let l = c.loop-thread in
     let tried = c.try_word-done in
-    let stays = rw (not-true tried.result c.if-not-done.true) at tried.ensures in
+    let stays = rw (c.if-not-done.true) at tried.ensures in
     let back : l.left - 1 + 1 ≡ l.left = omega (arith, l.invariant.0) in
     record {
       last = refl;
@@ -45,7 +45,7 @@ pub returns-then-left-others : goal.returns-then-left-others
 returns-then-left-others c =
     let l = c.loop-thread in
     let tried = c.try_word-done in
-    let made = rw (not-false tried.result c.if-not-done.false) at tried.ensures in
+    let made = rw (c.if-not-done.false) at tried.ensures in
     record {
       last = refl;
       fewer = omega (arith, l.invariant.0, l.invariant.1);
@@ -62,7 +62,7 @@ pub loop-thread-preserved : goal.loop-thread-preserved
 loop-thread-preserved c =
     let l = c.loop-thread in
     let tried = c.try_word-done in
-    let made = rw (not-false tried.result c.if-not-done.false) at tried.ensures in
+    let made = rw (c.if-not-done.false) at tried.ensures in
     let on = neither (eqb (l.left - 1) 0) c.args.others c.if-left-others.false in (
       omega (arith, eqb-false (l.left - 1) 0 on.0),
       omega (arith, l.invariant.1),
