@@ -13,7 +13,7 @@ returns-then-in_program c enabled turns =
     rw (
       c.set_scalar.ensures,
       ← wrapped (context a.t a.pc enabled a.words turns) a.regs.now a.regs.now a.offset c.requires.1 c.requires.2 (search rules),
-      ← sum.ensures,
+      ← sum.ensures.value,
       ← c.in_program.ensures,
       c.if-in_program.true,
     )

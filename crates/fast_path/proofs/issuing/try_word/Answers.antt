@@ -8,7 +8,7 @@ use Rattle.fast_path.proofs.issuing.try_word.Goals as goal
 
 pub scalar-pc-requires : goal.scalar-pc-requires
 scalar-pc-requires c =
-    let test = c.fits2 in
+    let test = c.fits in
     let a = c.args in
     let fit = sym test.ensures ∙ c.if-not-fits.false in
     let h = fitting (length a.program.now) (length a.regs.now) a.thread fit in
@@ -16,7 +16,7 @@ scalar-pc-requires c =
 
 pub in_program-requires : goal.in_program-requires
 in_program-requires c =
-    let test = c.fits2 in
+    let test = c.fits in
     let a = c.args in
     (fitting (length a.program.now) (length a.regs.now) a.thread
     (sym test.ensures ∙ c.if-not-fits.false)).0
@@ -35,7 +35,7 @@ pub word-requires : goal.word-requires
 word-requires c =
     let test = c.in_program in
     let pc = c.scalar-pc in
-    let h = fitting _ _ _ (sym c.fits2.ensures ∙ c.if-not-fits.false) in (
+    let h = fitting _ _ _ (sym c.fits.ensures ∙ c.if-not-fits.false) in (
       (h.1, h.2),
       h.0,
       omega (
@@ -53,5 +53,5 @@ returns c =
     let pc = c.scalar-pc in
     let a = c.args in
     tries-issue a.program.now a.thread a.regs.now a.memory.now
-    (sym c.fits2.ensures ∙ c.if-not-fits.false)
+    (sym c.fits.ensures ∙ c.if-not-fits.false)
     pc.result pc.ensures (sym test.ensures ∙ c.if-not-in_program.false) w.result _ _ w.ensures

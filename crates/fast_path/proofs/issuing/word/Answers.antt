@@ -11,22 +11,22 @@ returns-else-is_lanes_i c enabled turns =
     c.action-action.result (c.action-action.ensures _ enabled _ turns) c.act.result _ (c.act.ensures enabled turns)
 
 pub returns-then-is_lanes_r : goal.returns-then-is_lanes_r
-returns-then-is_lanes_r c = c.word.ensures _ enabled _ turns
+returns-then-is_lanes_r c enabled turns = c.word.ensures _ enabled _ turns
 
 pub returns-then-is_lanes_i : goal.returns-then-is_lanes_i
-returns-then-is_lanes_i c = c.word-then-is_lanes_i.ensures _ enabled _ turns
+returns-then-is_lanes_i c enabled turns = c.word-then-is_lanes_i.ensures _ enabled _ turns
 
 pub returns-in-160 : goal.returns-in-160
-returns-in-160 c = c.store.ensures enabled _ turns
+returns-in-160 c enabled turns = c.store.ensures enabled _ turns
 
 pub returns-in-161 : goal.returns-in-161
-returns-in-161 c = c.store-in-161.ensures enabled _ turns
+returns-in-161 c enabled turns = c.store-in-161.ensures enabled _ turns
 
 pub returns-in-162 : goal.returns-in-162
-returns-in-162 c = c.store-in-162.ensures enabled _ turns
+returns-in-162 c enabled turns = c.store-in-162.ensures enabled _ turns
 
 pub returns-in-136 : goal.returns-in-136
-returns-in-136 c = c.access.ensures enabled _ turns
+returns-in-136 c enabled turns = c.access.ensures enabled _ turns
 
 pub returns-in-168 : goal.returns-in-168
-returns-in-168 c = c.access-in-168.ensures enabled _ turns
+returns-in-168 c enabled turns = c.access-in-168.ensures enabled _ turns
