@@ -13,7 +13,7 @@ use native.Mathlib.Nat.{min-le_left, mul-le-mul, mul-le-mul_left}
 use lib.Seq.{slice, length-slice, slice-cons, slice_empty, drop-drop, get_or-drop, get_or-take}
 use Rattle.token.specs.Byte.{digit, is_letter}
 use Rattle.token.specs.Name.{all_letters, is_label}
-use Rattle.token.specs.Number.{digits_on, numeral, number, limit}
+use Rattle.token.specs.Number.{digits_on, numeral, number}
 use Rattle.token.specs.Word.{cap, capped}
 
 pub past-part : (l : List ℕ) (start stop : ℕ) → stop ≤ start → slice start stop l ≡ []

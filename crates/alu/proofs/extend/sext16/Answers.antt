@@ -1,5 +1,5 @@
 -- `extend::sext16` meets its contract.
-use Rattle.std.proofs.Common.{rules, le-leb}
+use Rattle.std.proofs.Common.{le-leb}
 use borrow.Author.Tests.{lt-leb}
 use Rattle.alu.proofs.extend.sext16.Goals as goal
 

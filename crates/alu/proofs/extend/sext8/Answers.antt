@@ -1,5 +1,5 @@
 -- `extend::sext8` meets its contract.
-use Rattle.std.proofs.Common.{rules, le-leb}
+use Rattle.std.proofs.Common.{le-leb}
 use borrow.Author.Tests.{lt-leb}
 use Rattle.alu.proofs.extend.sext8.Goals as goal
 

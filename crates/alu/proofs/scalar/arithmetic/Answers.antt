@@ -1,5 +1,4 @@
 -- `scalar::arithmetic` meets its contract: in each arm the operation is known.
-use Rattle.std.proofs.Common.{rules}
 use Rattle.alu.proofs.scalar.arithmetic.Goals as goal
 
 pub returns-in-Or : goal.returns-in-Or

@@ -1,5 +1,5 @@
 -- `scalar::binary` meets its contract: the test tells which of the two halves the operation is of.
-use Rattle.std.proofs.Common.{Bool, cond, sym, ap, ◌∙◌, rules}
+use Rattle.std.proofs.Common.{Bool, cond, sym, ap, ◌∙◌}
 use Rattle.alu.specs.Binary.{binary}
 use Rattle.alu.proofs.scalar.binary.Goals as goal
 

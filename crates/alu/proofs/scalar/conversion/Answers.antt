@@ -1,5 +1,4 @@
 -- `scalar::conversion` meets its contract: in each arm the operation is known.
-use Rattle.std.proofs.Common.{rules}
 use Rattle.alu.proofs.scalar.conversion.Goals as goal
 
 pub returns-in-Clz : goal.returns-in-Clz

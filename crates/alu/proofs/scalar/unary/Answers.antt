@@ -1,5 +1,5 @@
 -- `scalar::unary` meets its contract: the test tells which of the two halves the operation is of.
-use Rattle.std.proofs.Common.{Bool, cond, sym, ap, ◌∙◌, rules}
+use Rattle.std.proofs.Common.{Bool, cond, sym, ap, ◌∙◌}
 use Rattle.alu.specs.Unary.{unary}
 use Rattle.alu.proofs.scalar.unary.Goals as goal
 

@@ -1,7 +1,6 @@
 -- `arithmetic::fmul` meets its contract: the values multiplied as floats, written as a pattern.
 use lib.Ieee as Ieee
 use lib.Ieee.{binary32}
-use borrow.Author.Rules.{rules}
 use Rattle.float.proofs.Values.{written}
 use Rattle.float.proofs.arithmetic.fmul.Goals as goal
 

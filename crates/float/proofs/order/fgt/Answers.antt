@@ -2,7 +2,6 @@
 use mathlib.Core.Path.{ap₂}
 use lib.Ieee as Ieee
 use lib.Ieee.{Float}
-use borrow.Author.Rules.{rules}
 use Rattle.float.proofs.order.fgt.Goals as goal
 
 pub returns : goal.returns

@@ -1,7 +1,6 @@
 -- `order::fle` meets its contract: the values compared as floats.
 use mathlib.Core.Path.{ap₂}
 use lib.Ieee as Ieee
-use borrow.Author.Rules.{rules}
 use Rattle.float.proofs.order.fle.Goals as goal
 
 pub returns : goal.returns

@@ -1,7 +1,6 @@
 -- `order::flt` meets its contract: the values compared as floats.
 use mathlib.Core.Path.{ap₂}
 use lib.Ieee as Ieee
-use borrow.Author.Rules.{rules}
 use Rattle.float.proofs.order.flt.Goals as goal
 
 pub returns : goal.returns

@@ -2,7 +2,6 @@
 use mathlib.Core.Path.{sym, ◌∙◌}
 use Rattle.image_layout.proofs.Standing.{head-short, head-within}
 use native.Mathlib.Omega.{arith}
-use borrow.Author.Rules.{rules}
 use Rattle.image_layout.proofs.heads.head_stands.Goals as goal
 
 pub returns-then-image-length : goal.returns-then-image-length

@@ -6,7 +6,6 @@ use lib.Dec.{eqb}
 use lib.ListN.{get_or}
 use Rattle.image_layout.specs.Layout.{places_of}
 use Rattle.image_layout.proofs.Standing.{stands-more}
-use borrow.Author.Rules.{rules}
 use Rattle.image_layout.proofs.heads.opens_with.Goals as goal
 
 pub returns : goal.returns

@@ -3,7 +3,6 @@ use Prim.Native.Nat.{◌+◌}
 use mathlib.Core.Path.{sym}
 use Rattle.image_layout.proofs.Standing.{stands-none, stands_one, stands-two}
 use native.Mathlib.Omega.{arith}
-use borrow.Author.Rules.{rules}
 use Rattle.image_layout.proofs.heads.places_stand.Goals as goal
 
 pub bounds-image-at-in-ByRegister-2 : goal.bounds-image-at-in-ByRegister-2

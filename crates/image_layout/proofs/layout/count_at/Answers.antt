@@ -2,7 +2,6 @@
 use mathlib.Core.Path.{ap, ◌∙◌}
 use Rattle.image_layout.specs.Layout.{row_of}
 use Rattle.image_layout.proofs.Rows.{count-listed, past-kinds}
-use borrow.Author.Rules.{rules}
 use Rattle.image_layout.proofs.layout.count_at.Goals as goal
 
 pub returns-then-position-lt-KINDS : goal.returns-then-position-lt-KINDS

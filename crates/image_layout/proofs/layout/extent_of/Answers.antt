@@ -4,7 +4,6 @@ use mathlib.Core.Path.{◌≡◌, ap, ◌∙◌}
 use Rattle.image_layout.specs.Layout.{row_of, extent_of}
 use Rattle.image_layout.proofs.Rows.{extent-few}
 use native.Mathlib.Omega.{arith}
-use borrow.Author.Rules.{rules}
 use Rattle.image_layout.proofs.layout.extent_of.Goals as goal
 
 pub overflow_mul-result : goal.overflow_mul-result

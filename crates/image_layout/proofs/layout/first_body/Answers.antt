@@ -3,7 +3,6 @@ use mathlib.Core.Path.{ap, ◌∙◌}
 use Rattle.image_layout.specs.Layout.{row_of, head_length}
 use Rattle.image_layout.proofs.Rows.{places-few, kind-room, whole_length, fixed-few}
 use native.Mathlib.Omega.{arith}
-use borrow.Author.Rules.{rules}
 use Rattle.image_layout.proofs.layout.first_body.Goals as goal
 
 pub overflow_add-result : goal.overflow_add-result

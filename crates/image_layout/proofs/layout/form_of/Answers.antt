@@ -1,6 +1,5 @@
 -- `layout::form_of` meets its contract.
 use Prim.Native.Nat.{◌%◌}
-use borrow.Author.Rules.{rules}
 use borrow.Author.Tests.{eq-eqb, ne_eqb}
 use Rattle.image_layout.proofs.layout.form_of.Goals as goal
 

@@ -1,5 +1,4 @@
 -- `layout::head_length` meets its contract.
-use borrow.Author.Rules.{rules}
 use Rattle.image_layout.proofs.layout.head_length.Goals as goal
 
 pub returns-in-Nothing : goal.returns-in-Nothing

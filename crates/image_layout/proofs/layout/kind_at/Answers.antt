@@ -1,6 +1,5 @@
 -- `layout::kind_at` meets its contract.
 use Rattle.image_layout.proofs.Rows.{past-kinds}
-use borrow.Author.Rules.{rules}
 use Rattle.image_layout.proofs.layout.kind_at.Goals as goal
 
 pub returns : goal.returns

@@ -1,6 +1,5 @@
 -- `layout::order_of` meets its contract.
 use Rattle.image_layout.specs.Layout.{position_in, order_of}
-use borrow.Author.Rules.{rules}
 use Rattle.image_layout.proofs.layout.order_of.Goals as goal
 
 pub returns-in-Hd : goal.returns-in-Hd

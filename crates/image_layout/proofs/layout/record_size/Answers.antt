@@ -1,7 +1,6 @@
 -- `layout::record_size` meets its contract.
 use Rattle.image_layout.proofs.Rows.{places-few}
 use native.Mathlib.Omega.{arith}
-use borrow.Author.Rules.{rules}
 use Rattle.image_layout.proofs.layout.record_size.Goals as goal
 
 pub overflow_add-result : goal.overflow_add-result

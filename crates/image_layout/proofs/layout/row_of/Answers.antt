@@ -1,5 +1,4 @@
 -- `layout::row_of` meets its contract.
-use borrow.Author.Rules.{rules}
 use Rattle.image_layout.proofs.layout.row_of.Goals as goal
 
 pub returns-in-Hd : goal.returns-in-Hd

@@ -1,10 +1,9 @@
 -- `layout::start_of` meets its contract.
-use Prim.Native.Nat.{◌+◌, ◌*◌, ◌-◌, ◌≤◌}
+use Prim.Native.Nat.{◌+◌}
 use mathlib.Core.Path.{◌≡◌, sym, ap, ◌∙◌}
 use Rattle.image_layout.specs.Layout.{row_of, kind_at, extent_of, start_of}
 use Rattle.image_layout.proofs.Rows.{extent-few, order-few, start_none, start-next}
 use native.Mathlib.Omega.{arith}
-use borrow.Author.Rules.{rules}
 use Rattle.image_layout.proofs.layout.start_of.Goals as goal
 
 pub overflow_add-at : goal.overflow_add-at

@@ -1,10 +1,7 @@
 -- `layout::start_of` meets its contract.
-use Prim.Native.Nat.{◌+◌, ◌*◌, ◌-◌, ◌≤◌}
-use mathlib.Core.Path.{◌≡◌, sym, ap, ◌∙◌}
-use Rattle.image_layout.specs.Layout.{row_of, kind_at, extent_of, start_of}
-use Rattle.image_layout.proofs.Rows.{extent-few, order-few, start_none, start-next}
-use native.Mathlib.Omega.{arith}
-use borrow.Author.Rules.{rules}
+use Prim.Native.Nat.{◌*◌, ◌-◌, ◌≤◌}
+use mathlib.Core.Path.{◌≡◌}
+use Rattle.image_layout.specs.Layout.{start_of}
 use Rattle.image_layout.proofs.layout.start_of.Given as goal
 
 abbrev pub invariant-loop-position : goal.invariant-loop-position

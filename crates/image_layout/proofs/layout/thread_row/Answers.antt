@@ -1,5 +1,4 @@
 -- `layout::thread_row` meets its contract.
-use borrow.Author.Rules.{rules}
 use Rattle.image_layout.proofs.layout.thread_row.Goals as goal
 
 pub returns-in-Newest : goal.returns-in-Newest

@@ -50,19 +50,12 @@ returns-in-NoneRunning c =
     )
 
 -- a thread is chosen
-told : (c : tie.After-known-told invariant-loop decreases-loop)
-    → choice (with_last c.before.before.before.before.before.before.before.before.before.before.before.before.before.args.machine c.before.before.before.before.before.before.before.before.before.loop.fast.last) ≡ Chosen c.before.choice.given.0.0 c.before.choice.given.0.1.0
-told c =
-    let v = c.before.choice.given in
-    let turn = c.before.before.before.choose in
-    (turned (with_last c.before.before.before.before.before.before.before.before.before.before.before.before.before.args.machine c.before.before.before.before.before.before.before.before.before.loop.fast.last) turn.result (rw (← c.before.before.before.before.with-last.ensures) turn.ensures)
-    (Chosen v.0.0 v.0.1.0) v.1).0
-
 pub make_thread_issues-fast-requires : goal.make_thread_issues-fast-requires
 make_thread_issues-fast-requires c =
     let l = c.loop-fast in
     let on = neither l.fast.deferred (eqb l.fast.left 0) c.if-fast.false in
-    let f = (chooses _ _ _).0 (told c) in
+    let f = (chooses _ _ _).0 (turned (with_last c.args.machine c.loop-fast.fast.last) c.choose-turn.result (rw (← c.with_last-at.ensures) c.choose-turn.ensures)
+    (Chosen c.in-Chosen.thread c.in-Chosen.distance) c.in-Chosen.is).0 in
     (omega (arith, eqb-false l.fast.left 0 on.1), f.high, omega (arith, l.invariant.4, c.requires.3))
 
 one : (x : Bool) → cond x 1 0 ≤ 1
@@ -73,12 +66,13 @@ pub loop-fast-preserved : goal.loop-fast-preserved
 loop-fast-preserved c =
     let l = c.loop-fast in
     let r = c.make_thread_issues-fast in
-    let h = told c in
+    let h = (turned (with_last c.args.machine c.loop-fast.fast.last) c.choose-turn.result (rw (← c.with_last-at.ensures) c.choose-turn.ensures)
+    (Chosen c.in-Chosen.thread c.in-Chosen.distance) c.in-Chosen.is).0 in
     let on = neither l.fast.deferred (eqb l.fast.left 0) c.if-fast.false in
     let t = chosen-thread _ _ _ h in (
       rw r.ensures.last t,
-      r.auto.1.0 ∙ l.invariant.1,
-      r.auto.1.1.0 ∙ l.invariant.2,
+      r.auto.registers ∙ l.invariant.1,
+      r.auto.memory ∙ l.invariant.2,
       omega (arith, r.ensures.fewer, l.invariant.3, one r.result.deferred),
       omega (arith, r.ensures.bound, l.invariant.4),
       λ b first turns size k.

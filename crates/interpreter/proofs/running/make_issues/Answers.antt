@@ -38,38 +38,38 @@ returns-then-not-changed c =
     let rounds = c.count_rounds-rounds.ensures in
     let m = c.make_stretch-stretch in
     let l = c.loop-machine in
-    let stays = not-true m.result.changed c.if-not-changed.true in
+    let stays = c.if-not-changed.true in
     let e = c.ended.ensures in
     let further = carried-further _ _ _ l.left l.looks (recounted (state l.machine l.registers l.memory) l.turns) l.invariant.4 l.invariant.0
     m.result.left m.result.passed _ m.ensures.0.carried m.ensures.0.within in
-    (λ i. record { answer = e.0 i; issues = e.1 i; looks = e.2 i; left = state (e.3 i) m.new.1.0 m.new.1.1.0 })
+    (λ i. record { answer = e.0 i; issues = e.1 i; looks = e.2 i; left = state (e.3 i) m.new.registers m.new.memory })
     ∙ rw (put, rounds)
     (ends _ _ _ m.result.left _ _ further (omega (arith, l.invariant.0, m.ensures.0.within)) m.result.running (m.ensures.0.over stays) _
     (omega (arith, looks-over _ _ _ m.result _ m.ensures.0 stays)))
 
 -- both lent buffers keep their lengths
 pub shape_of-registers-then-not-changed : goal.shape_of-registers-then-not-changed
-shape_of-registers-then-not-changed c = c.make_stretch-stretch.auto.1.0 ∙ c.loop-machine.invariant.1
+shape_of-registers-then-not-changed c = c.make_stretch-stretch.auto.registers ∙ c.loop-machine.invariant.1
 
 pub shape_of-memory-then-not-changed : goal.shape_of-memory-then-not-changed
-shape_of-memory-then-not-changed c = c.make_stretch-stretch.auto.1.1.0 ∙ c.loop-machine.invariant.2
+shape_of-memory-then-not-changed c = c.make_stretch-stretch.auto.memory ∙ c.loop-machine.invariant.2
 
 pub loop-machine-smaller : goal.loop-machine-smaller
 loop-machine-smaller c =
     let m = c.make_stretch-stretch in
-    m.ensures.0.some-made (not-false m.result.changed c.if-not-changed.false)
+    m.ensures.0.some-made (c.if-not-changed.false)
 
 pub loop-machine-preserved : goal.loop-machine-preserved
 loop-machine-preserved c =
     let rounds = c.count_rounds-rounds.ensures in
     let m = c.make_stretch-stretch in
     let l = c.loop-machine in
-    let changed = not-false m.result.changed c.if-not-changed.false in
+    let changed = c.if-not-changed.false in
     let further = carried-further _ _ _ l.left l.looks (recounted (state l.machine l.registers l.memory) l.turns) l.invariant.4 l.invariant.0
     m.result.left m.result.passed _ m.ensures.0.carried m.ensures.0.within in (
       omega (arith, l.invariant.0, m.ensures.0.within),
-      m.auto.1.0 ∙ l.invariant.1,
-      m.auto.1.1.0 ∙ l.invariant.2,
+      m.auto.registers ∙ l.invariant.1,
+      m.auto.memory ∙ l.invariant.2,
       ap length rounds ∙ rounds-counted.size l.machine m.result.passed l.turns ∙ l.invariant.3,
       rw (rounds, goes_on _ _ _ m.result _ m.ensures.0 changed) further,
       m.ensures.1,

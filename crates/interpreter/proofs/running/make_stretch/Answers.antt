@@ -39,23 +39,16 @@ make_fast_issues-fast-requires c =
     let k = l.invariant.3 in
     (c.requires.0, l.invariant.1 ∙ c.requires.1, l.invariant.0, omega (arith, c.ranges.left, k.within, carried-within _ _ _ _ _ _ k.carried))
 
--- where the fast path has come to
-came : (c : tie.After-make-fast-issues invariant-loop decreases-loop)
-    → CameTo c.before.before.before.before.before.before.before.before.args.program.now c.before.before.before.before.before.before.before.before.args.left (recounted (state c.before.before.before.before.before.before.before.before.args.machine c.before.before.before.before.before.before.before.before.args.registers.now c.before.before.before.before.before.before.before.before.args.memory.now) c.before.before.before.before.before.before.before.before.args.turns.now)
-    c.before.before.before.before.before.before.before.before.args.machine c.before.before.before.before.before.before.before.before.args.turns.now c.make-fast-issues.result c.make-fast-issues.new.1.0 c.make-fast-issues.new.1.1.0
-    c.make-fast-issues.result.deferred
-came c = c.make-fast-issues.ensures.2 _ _ _ c.before.before.before.before.before.before.before.before.requires.2 c.before.before.before.loop.invariant.3
-
 -- no thread is running
 pub returns-in-NoneRunning : goal.returns-in-NoneRunning
 returns-in-NoneRunning c =
     let m = c.make_fast_issues-fast in
     let w = c.with_last-at.ensures in
     let turn = c.choose-turn in
-    let k = rw (not-true m.result.deferred c.if-not-deferred.true) at (came c) in
+    let k = rw (c.if-not-deferred.true) at (c.make_fast_issues-fast.ensures.2 _ _ _ c.requires.2 c.loop-machine.invariant.3) in
     let at = with_last c.args.machine m.result.last in
     let counts = after_rounds c.args.machine m.result.passed c.args.turns.now in
-    let s = state at m.new.1.0 m.new.1.1.0 in
+    let s = state at m.new.registers m.new.memory in
     let none = chosen-beside s counts (turned at turn.result (rw (← w) turn.ensures) NoneRunning c.in-NoneRunning.is).0 in
     rw w (
       record {
@@ -74,65 +67,63 @@ returns-in-Chosen c =
     let m = c.make_fast_issues-fast in
     let w = c.with_last-at.ensures in
     let turn = c.choose-turn in
-    let v = c.choice-1.given in
-    let k = rw (not-true m.result.deferred c.if-not-deferred.true) at (came c) in
+    let k = rw (c.if-not-deferred.true) at (c.make_fast_issues-fast.ensures.2 _ _ _ c.requires.2 c.loop-machine.invariant.3) in
     let at = with_last c.args.machine m.result.last in
     let counts = after_rounds c.args.machine m.result.passed c.args.turns.now in
-    let s = state at m.new.1.0 m.new.1.1.0 in
-    let h = (turned at turn.result (rw (← w) turn.ensures) (Chosen v.0.0 v.0.1.0) v.1).0 in
+    let s = state at m.new.registers m.new.memory in
+    let h = (turned at turn.result (rw (← w) turn.ensures) (Chosen c.in-Chosen.thread c.in-Chosen.distance) c.in-Chosen.is).0 in
     let some = chosen-beside s counts h in
     rw w (
       record {
         carried = k.0.carried;
         within = k.0.within;
         some-made = λ e. never e refl;
-        over = λ e. over-spent _ _ (recounted s counts) v.0.0 v.0.1.0 some (k.1 v.0.0 v.0.1.0 h);
-        looks = ap (λ n. m.result.passed + n) (sym (look-some c.args.program.now (recounted s counts) v.0.0 v.0.1.0 some));
+        over = λ e. over-spent _ _ (recounted s counts) c.in-Chosen.thread c.in-Chosen.distance some (k.1 c.in-Chosen.thread c.in-Chosen.distance h);
+        looks = ap (λ n. m.result.passed + n) (sym (look-some c.args.program.now (recounted s counts) c.in-Chosen.thread c.in-Chosen.distance some));
       },
       m.ensures.0,
     )
 
 pub overflow_add-result : goal.overflow_add-result
 overflow_add-result c =
-    let k = rw (c.if-not-deferred.true) at (came c) in
+    let k = rw (c.if-not-deferred.true) at (c.make_fast_issues-fast.ensures.2 _ _ _ c.requires.2 c.loop-machine.invariant.3) in
     omega (arith, c.ranges.left, carried-within _ _ _ _ _ _ k.0.carried)
 
 pub overflow_add-result-in-Chosen : goal.overflow_add-result-in-Chosen
 overflow_add-result-in-Chosen c =
     let m = c.make_fast_issues-fast in
     let turn = c.choose-turn in
-    let v = c.choice-1.given in
-    let k = rw (not-true m.result.deferred c.if-not-deferred.true) at (came c) in
-    let h = (turned _ turn.result turn.ensures (Chosen v.0.0 v.0.1.0) v.1).0 in
-    let f = (chooses _ v.0.0 v.0.1.0).0 h in
+    let k = rw (c.if-not-deferred.true) at (c.make_fast_issues-fast.ensures.2 _ _ _ c.requires.2 c.loop-machine.invariant.3) in
+    let h = (turned _ turn.result turn.ensures (Chosen c.in-Chosen.thread c.in-Chosen.distance) c.in-Chosen.is).0 in
+    let f = (chooses _ c.in-Chosen.thread c.in-Chosen.distance).0 h in
     omega (arith, c.ranges.left, carried-within _ _ _ _ _ _ k.0.carried, f.high)
 
 -- the slow path makes an issue
 pub overflow_sub-rounds : goal.overflow_sub-rounds
 overflow_sub-rounds c =
     let m = c.make_fast_issues-fast in
-    let k = rw (not-false m.result.deferred c.if-not-deferred.false) at (came c) in
-    awaited-some c.args.program.now _ _ c.args.machine c.args.turns.now m.new.1.0 m.new.1.1.0 c.requires.0
-    (m.auto.1.0 ∙ c.loop-machine.invariant.1 ∙ c.requires.1) c.requires.2 _ _ _ k
+    let k = rw (c.if-not-deferred.false) at (c.make_fast_issues-fast.ensures.2 _ _ _ c.requires.2 c.loop-machine.invariant.3) in
+    awaited-some c.args.program.now _ _ c.args.machine c.args.turns.now m.new.registers m.new.memory c.requires.0
+    (m.auto.registers ∙ c.loop-machine.invariant.1 ∙ c.requires.1) c.requires.2 _ _ _ k
 
 -- and sets a status
 pub returns-then-changed : goal.returns-then-changed
 returns-then-changed c =
     let m = c.make_fast_issues-fast in
     let w = c.with_last-at.ensures in
-    let k = rw (not-false m.result.deferred c.if-not-deferred.false) at (came c) in
-    let regs : length m.new.1.0 ≡ 8704 = m.auto.1.0 ∙ c.loop-machine.invariant.1 ∙ c.requires.1 in
+    let k = rw (c.if-not-deferred.false) at (c.make_fast_issues-fast.ensures.2 _ _ _ c.requires.2 c.loop-machine.invariant.3) in
+    let regs : length m.new.registers ≡ 8704 = m.auto.registers ∙ c.loop-machine.invariant.1 ∙ c.requires.1 in
     let i = rw (w, c.many_more-had.ensures) at c.issue-issued.ensures.0 in (
       record {
         carried =
-            awaited-made c.args.program.now _ _ c.args.machine c.args.turns.now m.new.1.0 m.new.1.1.0 c.requires.0
+            awaited-made c.args.program.now _ _ c.args.machine c.args.turns.now m.new.registers m.new.memory c.requires.0
             regs c.requires.2 m.result.left m.result.passed m.result.last k _ i;
         within = omega (arith, k.along.within);
         some-made = λ e. omega (arith, k.along.within);
         over = λ e. never c.if-changed.true e;
         looks = rw c.if-changed.true (omega arith);
       },
-      rw (issue-last c.args.program.now (state (with_last c.args.machine m.result.last) m.new.1.0 m.new.1.1.0) _ m.result.last _ c.requires.0 regs m.ensures.0 i) m.ensures.0,
+      rw (issue-last c.args.program.now (state (with_last c.args.machine m.result.last) m.new.registers m.new.memory) _ m.result.last _ c.requires.0 regs m.ensures.0 i) m.ensures.0,
     )
 
 -- or none
@@ -140,23 +131,23 @@ pub loop-machine-preserved : goal.loop-machine-preserved
 loop-machine-preserved c =
     let m = c.make_fast_issues-fast in
     let w = c.with_last-at.ensures in
-    let k = rw (not-false m.result.deferred c.if-not-deferred.false) at (came c) in
-    let regs : length m.new.1.0 ≡ 8704 = m.auto.1.0 ∙ c.loop-machine.invariant.1 ∙ c.requires.1 in
+    let k = rw (c.if-not-deferred.false) at (c.make_fast_issues-fast.ensures.2 _ _ _ c.requires.2 c.loop-machine.invariant.3) in
+    let regs : length m.new.registers ≡ 8704 = m.auto.registers ∙ c.loop-machine.invariant.1 ∙ c.requires.1 in
     let n = c.issue-issued in
     let i = rw (w, c.many_more-had.ensures) at n.ensures.0 in
     let j = rw (w, c.many_more-had.ensures) at n.ensures.1 in (
       m.ensures.0,
-      n.auto.1.0 ∙ m.auto.1.0 ∙ c.loop-machine.invariant.1,
-      n.auto.1.1.0 ∙ m.auto.1.1.0 ∙ c.loop-machine.invariant.2,
-      awaited-on c.args.program.now _ _ c.args.machine c.args.turns.now m.new.1.0 m.new.1.1.0 c.requires.0
-          regs c.requires.2 m.result.left m.result.passed m.result.last k n.new.1.0 n.new.1.1.0
-          (issue-untouched _ (state (with_last c.args.machine m.result.last) m.new.1.0 m.new.1.1.0) _ _ _ i _ j c.if-changed.false),
+      n.auto.registers ∙ m.auto.registers ∙ c.loop-machine.invariant.1,
+      n.auto.memory ∙ m.auto.memory ∙ c.loop-machine.invariant.2,
+      awaited-on c.args.program.now _ _ c.args.machine c.args.turns.now m.new.registers m.new.memory c.requires.0
+          regs c.requires.2 m.result.left m.result.passed m.result.last k n.new.registers n.new.memory
+          (issue-untouched _ (state (with_last c.args.machine m.result.last) m.new.registers m.new.memory) _ _ _ i _ j c.if-changed.false),
     )
 
 pub loop-machine-smaller : goal.loop-machine-smaller
 loop-machine-smaller c =
     let m = c.make_fast_issues-fast in
-    let e = not-false m.result.deferred c.if-not-deferred.false in
+    let e = c.if-not-deferred.false in
     let l = rw e at m.ensures.1 in
     omega (arith, l)
 
@@ -164,16 +155,16 @@ pub overflow_cast-last-in-loop-machine : goal.overflow_cast-last-in-loop-machine
 overflow_cast-last-in-loop-machine c = omega (arith, c.make_fast_issues-fast.ensures.0)
 
 pub shape_of-registers-in-NoneRunning : goal.shape_of-registers-in-NoneRunning
-shape_of-registers-in-NoneRunning c = c.make_fast_issues-fast.auto.1.0 ∙ c.loop-machine.invariant.1
+shape_of-registers-in-NoneRunning c = c.make_fast_issues-fast.auto.registers ∙ c.loop-machine.invariant.1
 
 pub shape_of-memory-in-NoneRunning : goal.shape_of-memory-in-NoneRunning
-shape_of-memory-in-NoneRunning c = c.make_fast_issues-fast.auto.1.1.0 ∙ c.loop-machine.invariant.2
+shape_of-memory-in-NoneRunning c = c.make_fast_issues-fast.auto.memory ∙ c.loop-machine.invariant.2
 
 pub shape_of-registers-in-Chosen : goal.shape_of-registers-in-Chosen
-shape_of-registers-in-Chosen c = c.make_fast_issues-fast.auto.1.0 ∙ c.loop-machine.invariant.1
+shape_of-registers-in-Chosen c = c.make_fast_issues-fast.auto.registers ∙ c.loop-machine.invariant.1
 
 pub shape_of-memory-in-Chosen : goal.shape_of-memory-in-Chosen
-shape_of-memory-in-Chosen c = c.make_fast_issues-fast.auto.1.1.0 ∙ c.loop-machine.invariant.2
+shape_of-memory-in-Chosen c = c.make_fast_issues-fast.auto.memory ∙ c.loop-machine.invariant.2
 
 pub offset_bounds-turns-last : goal.offset_bounds-turns-last
 offset_bounds-turns-last c = omega (arith, c.make_fast_issues-fast.ensures.0)
@@ -182,7 +173,7 @@ pub bounds-turns-last : goal.bounds-turns-last
 bounds-turns-last c = omega (arith, c.make_fast_issues-fast.ensures.0)
 
 pub shape_of-registers-then-changed : goal.shape_of-registers-then-changed
-shape_of-registers-then-changed c = c.issue-issued.auto.1.0 ∙ c.make_fast_issues-fast.auto.1.0 ∙ c.loop-machine.invariant.1
+shape_of-registers-then-changed c = c.issue-issued.auto.registers ∙ c.make_fast_issues-fast.auto.registers ∙ c.loop-machine.invariant.1
 
 pub shape_of-memory-then-changed : goal.shape_of-memory-then-changed
-shape_of-memory-then-changed c = c.issue-issued.auto.1.1.0 ∙ c.make_fast_issues-fast.auto.1.1.0 ∙ c.loop-machine.invariant.2
+shape_of-memory-then-changed c = c.issue-issued.auto.memory ∙ c.make_fast_issues-fast.auto.memory ∙ c.loop-machine.invariant.2

@@ -66,8 +66,8 @@ loop-thread-preserved c =
     let on = neither (eqb (l.left - 1) 0) c.args.others c.if-left-others.false in (
       omega (arith, eqb-false (l.left - 1) 0 on.0),
       omega (arith, l.invariant.1),
-      tried.auto.1.0 ∙ l.invariant.2,
-      tried.auto.1.1.0 ∙ l.invariant.3,
+      tried.auto.regs ∙ l.invariant.2,
+      tried.auto.memory ∙ l.invariant.3,
       omega (arith, l.invariant.0, l.invariant.4, c.requires.1),
       λ b first m turns last words regs size same h k.
           let q = l.invariant.5 b first m turns last words regs size same h k in
@@ -87,16 +87,16 @@ pub overflow_sub-left : goal.overflow_sub-left
 overflow_sub-left c = omega (arith, c.loop-thread.invariant.0)
 
 pub shape_of-registers-then-not-done : goal.shape_of-registers-then-not-done
-shape_of-registers-then-not-done c = c.try_word-done.auto.1.0 ∙ c.loop-thread.invariant.2
+shape_of-registers-then-not-done c = c.try_word-done.auto.regs ∙ c.loop-thread.invariant.2
 
 pub shape_of-memory-then-not-done : goal.shape_of-memory-then-not-done
-shape_of-memory-then-not-done c = c.try_word-done.auto.1.1.0 ∙ c.loop-thread.invariant.3
+shape_of-memory-then-not-done c = c.try_word-done.auto.memory ∙ c.loop-thread.invariant.3
 
 pub shape_of-registers-then-left-others : goal.shape_of-registers-then-left-others
-shape_of-registers-then-left-others c = c.try_word-done.auto.1.0 ∙ c.loop-thread.invariant.2
+shape_of-registers-then-left-others c = c.try_word-done.auto.regs ∙ c.loop-thread.invariant.2
 
 pub shape_of-memory-then-left-others : goal.shape_of-memory-then-left-others
-shape_of-memory-then-left-others c = c.try_word-done.auto.1.1.0 ∙ c.loop-thread.invariant.3
+shape_of-memory-then-left-others c = c.try_word-done.auto.memory ∙ c.loop-thread.invariant.3
 
 pub loop-thread-smaller : goal.loop-thread-smaller
 loop-thread-smaller c = omega (arith, c.loop-thread.invariant.0)

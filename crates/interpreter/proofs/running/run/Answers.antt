@@ -13,8 +13,7 @@ pub returns-in-Refused : goal.returns-in-Refused
 returns-in-Refused c =
     let a = c.args in
     let s : State = state a.machine a.registers.now a.memory.now in
-    let v = c.verdict-1.given in
-    run-refused a.program.now a.budget s v.0.0 (sym c.run_verdict-verdict.ensures ∙ ap number_of v.1)
+    run-refused a.program.now a.budget s c.in-Refused.number (sym c.run_verdict-verdict.ensures ∙ ap number_of c.in-Refused.is)
 
 pub make_issues-requires : goal.make_issues-requires
 make_issues-requires c =

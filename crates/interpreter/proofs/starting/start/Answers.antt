@@ -15,7 +15,7 @@ use Rattle.interpreter.proofs.starting.start.Goals as goal
 pub set_masks-requires : goal.set_masks-requires
 set_masks-requires c =
     let k = start-taken _ _ (sym c.start_verdict-verdict.ensures ∙ ap number_of c.in-Accepted.is) in
-    omega (arith, k.registers, c.clear.auto.0)
+    omega (arith, k.registers, c.clear.auto.registers)
 
 pub overflow_cast-mask : goal.overflow_cast-mask
 overflow_cast-mask c =
@@ -26,9 +26,8 @@ overflow_cast-mask c =
 pub returns-in-Refused : goal.returns-in-Refused
 returns-in-Refused c =
     let a = c.args in
-    let v = c.verdict-1.given in
-    ap (λ (m : Machine). record { answer = refused v.0.0; machine = m; registers = a.registers.now }) c.zero.ensures
-    ∙ start-refused a.mask a.registers.now v.0.0 (sym c.start_verdict-verdict.ensures ∙ ap number_of v.1)
+    ap (λ (m : Machine). record { answer = refused c.in-Refused.number; machine = m; registers = a.registers.now }) c.zero.ensures
+    ∙ start-refused a.mask a.registers.now c.in-Refused.number (sym c.start_verdict-verdict.ensures ∙ ap number_of c.in-Refused.is)
 
 -- not refused
 pub returns-in-Accepted : goal.returns-in-Accepted

@@ -1,5 +1,5 @@
 -- `fits` meets its contract: the field of the number stands for it again.
-use Rattle.std.proofs.Common.{mod-lt, arith, rules}
+use Rattle.std.proofs.Common.{mod-lt, arith}
 use Rattle.word_layout.specs.Layout.{fits_signed}
 use Rattle.isa.proofs.field.fits.Goals as goal
 

@@ -1,5 +1,4 @@
 -- `movei_fits` meets its contract: by the arm that was taken.
-use Rattle.std.proofs.Common.{rules}
 use Rattle.word_layout.specs.Layout.{fits_signed}
 use Rattle.isa.specs.Number.{fits_movei}
 use Rattle.isa.proofs.field.movei_fits.Goals as goal

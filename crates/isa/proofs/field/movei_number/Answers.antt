@@ -1,5 +1,4 @@
 -- `movei_number` meets its contract: by the arm that was taken.
-use Rattle.std.proofs.Common.{rules}
 use Rattle.isa.proofs.field.movei_number.Goals as goal
 
 pub returns-in-Low : goal.returns-in-Low

@@ -1,5 +1,5 @@
 -- `sign_extend` meets its contract, below the half and above it.
-use Rattle.std.proofs.Common.{arith, rules, le-leb}
+use Rattle.std.proofs.Common.{arith, le-leb}
 use borrow.Author.Tests.{lt-leb}
 use Rattle.word_layout.specs.Layout.{signed}
 use Rattle.isa.proofs.field.sign_extend.Goals as goal

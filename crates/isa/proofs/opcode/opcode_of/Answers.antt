@@ -1,5 +1,4 @@
 -- `opcode_of` meets its contract: by the instruction's format.
-use Rattle.std.proofs.Common.{rules}
 use Rattle.isa.proofs.opcode.opcode_of.Goals as goal
 
 pub returns-in-R : goal.returns-in-R

@@ -1,5 +1,4 @@
 -- `c_slots` meets its contract.
-use Rattle.std.proofs.Common.{rules}
 use Rattle.isa.proofs.operands.c_slots.Goals as goal
 
 pub returns : goal.returns

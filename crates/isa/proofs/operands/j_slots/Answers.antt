@@ -1,5 +1,4 @@
 -- `j_slots` meets its contract.
-use Rattle.std.proofs.Common.{rules}
 use Rattle.isa.proofs.operands.j_slots.Goals as goal
 
 pub returns : goal.returns

@@ -1,5 +1,4 @@
 -- `slots_of` meets its contract.
-use Rattle.std.proofs.Common.{rules}
 use Rattle.isa.proofs.operands.slots_of.Goals as goal
 
 pub returns-in-R : goal.returns-in-R

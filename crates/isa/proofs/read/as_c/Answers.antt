@@ -1,5 +1,5 @@
 -- `as_c` meets its contract: by the tests together.
-use Rattle.std.proofs.Common.{div-one, rules}
+use Rattle.std.proofs.Common.{div-one}
 use Rattle.isa.specs.Read.{as_c, guarded}
 use Rattle.isa.specs.Test.{all}
 use Rattle.isa.proofs.read.as_c.Goals as goal

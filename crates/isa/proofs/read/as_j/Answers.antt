@@ -1,5 +1,4 @@
 -- `as_j` meets its contract: by the rule.
-use Rattle.std.proofs.Common.{rules}
 use Rattle.isa.specs.Read.{as_j, guarded}
 use Rattle.isa.proofs.read.as_j.Goals as goal
 

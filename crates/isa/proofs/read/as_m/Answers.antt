@@ -1,5 +1,5 @@
 -- `as_m` meets its contract: by bits 2 and 1, and then by the tests together.
-use Rattle.std.proofs.Common.{div-one, rules, eq-eqb, ne_eqb}
+use Rattle.std.proofs.Common.{div-one, eq-eqb, ne_eqb}
 use Rattle.isa.specs.Read.{as_m, guarded}
 use Rattle.isa.specs.Test.{all}
 use Rattle.isa.proofs.read.as_m.Goals as goal

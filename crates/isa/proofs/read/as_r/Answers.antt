@@ -1,5 +1,5 @@
 -- `as_r` meets its contract: by the bit l, and then by the tests together.
-use Rattle.std.proofs.Common.{div-one, rules, eq-eqb, ne_eqb}
+use Rattle.std.proofs.Common.{div-one, eq-eqb, ne_eqb}
 use Rattle.isa.specs.Read.{as_r, guarded}
 use Rattle.isa.specs.Test.{all}
 use Rattle.isa.proofs.read.as_r.Goals as goal

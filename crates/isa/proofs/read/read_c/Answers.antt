@@ -1,5 +1,4 @@
 -- `read_c` meets its contract: by what the opcode stands for.
-use Rattle.std.proofs.Common.{rules}
 use Rattle.isa.specs.Read.{read_c, listed}
 use Rattle.isa.proofs.read.read_c.Goals as goal
 

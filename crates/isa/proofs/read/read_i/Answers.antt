@@ -1,5 +1,4 @@
 -- `read_i` meets its contract: by what the opcode stands for.
-use Rattle.std.proofs.Common.{rules}
 use Rattle.isa.specs.Read.{read_i, listed}
 use Rattle.isa.proofs.read.read_i.Goals as goal
 

@@ -1,5 +1,4 @@
 -- `read_j` meets its contract: by what the opcode stands for.
-use Rattle.std.proofs.Common.{rules}
 use Rattle.isa.specs.Read.{read_j, listed}
 use Rattle.isa.proofs.read.read_j.Goals as goal
 

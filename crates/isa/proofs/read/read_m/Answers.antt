@@ -1,5 +1,4 @@
 -- `read_m` meets its contract: by what the opcode stands for.
-use Rattle.std.proofs.Common.{rules}
 use Rattle.isa.specs.Read.{read_m, listed}
 use Rattle.isa.proofs.read.read_m.Goals as goal
 

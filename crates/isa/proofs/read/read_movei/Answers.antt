@@ -1,5 +1,4 @@
 -- `read_movei` meets its contract: by what the opcode stands for.
-use Rattle.std.proofs.Common.{rules}
 use Rattle.isa.specs.Read.{read_movei, listed}
 use Rattle.isa.proofs.read.read_movei.Goals as goal
 

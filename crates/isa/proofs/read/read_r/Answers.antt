@@ -1,5 +1,4 @@
 -- `read_r` meets its contract: by what the opcode stands for.
-use Rattle.std.proofs.Common.{rules}
 use Rattle.isa.specs.Read.{read_r, listed}
 use Rattle.isa.proofs.read.read_r.Goals as goal
 

@@ -1,5 +1,5 @@
 -- `read_word` meets its contract: by the format that the upper bits say.
-use Rattle.std.proofs.Common.{sym, ◌∙◌, rules}
+use Rattle.std.proofs.Common.{sym, ◌∙◌}
 use lib.Pow.{shr_mod}
 use Rattle.isa.proofs.Formats.{is-R, is-I, is-Movei, is-J, is-C, is-M, is_none}
 use Rattle.isa.specs.Read.{reads, read}

@@ -1,5 +1,4 @@
 -- `c_allows` meets its contract: by the arm that was taken.
-use Rattle.std.proofs.Common.{rules}
 use Rattle.isa.proofs.rule.c_allows.Goals as goal
 
 pub returns-in-Readcr : goal.returns-in-Readcr

@@ -1,5 +1,4 @@
 -- `class_set` meets its contract: by the arm that was taken.
-use Rattle.std.proofs.Common.{rules}
 use Rattle.isa.proofs.rule.class_set.Goals as goal
 
 pub returns-in-Binary : goal.returns-in-Binary

@@ -1,6 +1,6 @@
 -- `has_immediate` meets its contract: the set of no flags is 0, and no other is.
-use Rattle.std.proofs.Common.{◌≡◌, ◌^◌, Bool, true, false, cond, not, eqb, ltb, [], refl, rules}
-use Rattle.isa.specs.Rule.{flags_class, any_flags, has_immediate}
+use Rattle.std.proofs.Common.{◌≡◌, ◌^◌, Bool, true, false, cond, not, eqb, ltb, [], refl}
+use Rattle.isa.specs.Rule.{flags_class, any_flags}
 use Rattle.isa.specs.Table.{row_r}
 use Rattle.isa.specs.Test.{set_of}
 use Rattle.isa.specs.Types.{Operation, Binary, Unary, Compare, Shuffle, GetLane}

@@ -1,5 +1,4 @@
 -- `i_allows` meets its contract: the two tests are those of the rule.
-use Rattle.std.proofs.Common.{rules}
 use Rattle.isa.proofs.Sets.{i-agrees}
 use Rattle.isa.proofs.rule.i_allows.Goals as goal
 

@@ -1,5 +1,5 @@
 -- `i_set` meets its contract: an operation whose opcode has no room in five bits has no flags.
-use Rattle.std.proofs.Common.{◌≡◌, ℕ, ◌^◌, Bool, cond, ltb, [], sym, ap, ◌∙◌, rules, le-ltb, lt-ltb}
+use Rattle.std.proofs.Common.{◌≡◌, ℕ, ◌^◌, Bool, cond, ltb, [], sym, ap, ◌∙◌, le-ltb, lt-ltb}
 use Rattle.isa.specs.Rule.{flags_class}
 use Rattle.isa.specs.Test.{set_of}
 use Rattle.isa.specs.Types.{Operation}

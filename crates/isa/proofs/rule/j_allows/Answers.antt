@@ -1,5 +1,4 @@
 -- `j_allows` meets its contract: by the arm that was taken.
-use Rattle.std.proofs.Common.{rules}
 use Rattle.isa.proofs.rule.j_allows.Goals as goal
 
 pub returns-in-Jmp : goal.returns-in-Jmp

@@ -1,5 +1,4 @@
 -- `m_allows` meets its contract: by the arm that was taken.
-use Rattle.std.proofs.Common.{rules}
 use Rattle.isa.proofs.rule.m_allows.Goals as goal
 
 pub returns-in-Load : goal.returns-in-Load

@@ -1,5 +1,4 @@
 -- `operand_b` meets its contract: by the arm that was taken.
-use Rattle.std.proofs.Common.{rules}
 use Rattle.isa.proofs.rule.operand_b.Goals as goal
 
 pub returns-in-Unary : goal.returns-in-Unary

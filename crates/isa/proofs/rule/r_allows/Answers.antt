@@ -1,5 +1,4 @@
 -- `r_allows` meets its contract: the three tests are those of the rule.
-use Rattle.std.proofs.Common.{rules}
 use Rattle.isa.proofs.Sets.{r-agrees}
 use Rattle.isa.proofs.rule.r_allows.Goals as goal
 

@@ -1,5 +1,4 @@
 -- `i_template` meets its contract.
-use Rattle.std.proofs.Common.{rules}
 use Rattle.isa.proofs.template.i_template.Goals as goal
 
 pub returns-then-has_immediate : goal.returns-then-has_immediate

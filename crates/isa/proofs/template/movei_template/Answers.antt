@@ -1,5 +1,4 @@
 -- `movei_template` meets its contract.
-use Rattle.std.proofs.Common.{rules}
 use Rattle.isa.proofs.template.movei_template.Goals as goal
 
 pub returns-in-Listed : goal.returns-in-Listed

@@ -1,5 +1,5 @@
 -- `template_of` meets its contract: by the number of the format.
-use Rattle.std.proofs.Common.{rules, ne_eqb}
+use Rattle.std.proofs.Common.{ne_eqb}
 use Rattle.isa.proofs.template.template_of.Goals as goal
 
 pub returns-in-0 : goal.returns-in-0

@@ -1,5 +1,5 @@
 -- `write_c` meets its contract: the tests are those of the definition, but for parts that always have room.
-use Rattle.std.proofs.Common.{ltb, [], ◌∷◌, rules, ltb-true}
+use Rattle.std.proofs.Common.{ltb, [], ◌∷◌, ltb-true}
 use mathlib.Core.Option.{none, some}
 use Rattle.isa.proofs.Both.{each}
 use Rattle.isa.proofs.Room.{word, none_written}

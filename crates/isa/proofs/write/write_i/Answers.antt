@@ -1,5 +1,5 @@
 -- `write_i` meets its contract: the tests are those of the definition, but for parts that always have room.
-use Rattle.std.proofs.Common.{◌%◌, ltb, [], ◌∷◌, arith, rules, ltb-true, lt-ltb}
+use Rattle.std.proofs.Common.{◌%◌, ltb, [], ◌∷◌, arith, ltb-true, lt-ltb}
 use mathlib.Core.Option.{none, some}
 use Rattle.isa.proofs.Both.{each}
 use Rattle.isa.proofs.Room.{word, none_written}

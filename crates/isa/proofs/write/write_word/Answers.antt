@@ -1,5 +1,5 @@
 -- `write_word` meets its contract: by the instruction's format.
-use Rattle.std.proofs.Common.{sym, ap, ◌∙◌, rules}
+use Rattle.std.proofs.Common.{sym, ap, ◌∙◌}
 use Rattle.isa.specs.Write.{write}
 use Rattle.isa.proofs.write.write_word.Goals as goal
 

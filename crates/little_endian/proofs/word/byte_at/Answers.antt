@@ -1,7 +1,6 @@
 -- `byte_at` meets its contract: by whether the place is in the bytes.
 use mathlib.Core.Path.{refl, sym}
 use native.Mathlib.Omega.{arith}
-use borrow.Author.Rules.{rules}
 use lib.ListN.{get_or-eq_default}
 use Rattle.little_endian.proofs.word.byte_at.Goals as goal
 

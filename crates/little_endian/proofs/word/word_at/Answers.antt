@@ -2,7 +2,6 @@
 use mathlib.Core.Path.{sym}
 use native.Mathlib.Nat.{add-zero, add_assoc}
 use native.Mathlib.Omega.{arith}
-use borrow.Author.Rules.{rules}
 use Rattle.little_endian.specs.Numbers.{number_at}
 use Rattle.little_endian.proofs.Numbers.{past_end}
 use Rattle.little_endian.proofs.word.word_at.Goals as goal

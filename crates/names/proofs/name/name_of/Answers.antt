@@ -1,7 +1,6 @@
 -- `name_of` meets its contract: by the instruction's format, the name in the row of its opcode.
 use mathlib.Core.Path.{◌∙◌}
 use native.Mathlib.Omega.{arith}
-use borrow.Author.Rules.{rules}
 use Rattle.isa.specs.Table.{row_r}
 use Rattle.isa.specs.Text.{bytes}
 use Rattle.names.proofs.Names.{of-R, of-Movei, of-J, of-C, of-M, short, name-one-more}

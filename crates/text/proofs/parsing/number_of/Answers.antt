@@ -1,5 +1,4 @@
 -- `number_of` meets its contract: after i turns the bytes from i on are still to be read.
-use Prim.Native.Nat.{◌-◌}
 use mathlib.Core.Path.{◌≡◌, refl, sym, ◌∙◌}
 use native.Mathlib.Omega.{arith}
 use lib.ListN.{length}

@@ -1,8 +1,6 @@
-use Prim.Native.Nat.{◌-◌}
 use mathlib.Core.Path.{refl, sym, ◌∙◌}
 use native.Mathlib.Omega.{arith}
 use borrow.Author.Rules.{rules}
-use borrow.Author.Tests.{not-true, not-false}
 use Rattle.token.proofs.Runs.{blank-on, blank-stops, blank-ends}
 use Rattle.token.proofs.token.past_blanks.Goals as goal
 
