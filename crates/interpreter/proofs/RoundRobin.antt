@@ -305,7 +305,7 @@ module _ (on : ℕ → Bool) where
       u-enabled = c.1.enabled u (running-in m i c.0 u c.1 k.0)
 
       go : Dec (t ≡ u) → Dec (distance l t < distance l u) → made t (i ∷ w) ≤ made u (i ∷ w) + 1
-      go (yes e) d = rw e (omega arith)
+      go (yes e) d = let h : made t (i ∷ w) ≡ made u (i ∷ w) = ap (λ x. made x (i ∷ w)) e in omega arith
       go (no n) (yes d) = (evenly (i ∷ w) m t u n t-enabled.0 u-enabled.0 c h k d).1
       go (no n) (no d) =
           let f : distance l t ≡ distance l u → ⊥ = λ y. n (distance-apart l t u c.1.last t-enabled.0 u-enabled.0 y) in

@@ -1,5 +1,4 @@
 -- `rows::compare_row` meets its contract: in each arm the compare is known.
-use Rattle.std.proofs.Common.{rules}
 use Rattle.ordering.proofs.rows.compare_row.Goals as goal
 
 pub returns-in-Eq : goal.returns-in-Eq

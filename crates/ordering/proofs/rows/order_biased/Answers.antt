@@ -1,5 +1,5 @@
 -- `rows::order_biased` meets its contract: two tests tell the three orders apart.
-use Rattle.std.proofs.Common.{◌∙◌, ap₂, arith, rules}
+use Rattle.std.proofs.Common.{◌∙◌, ap₂, arith}
 use Rattle.ordering.specs.declared.rows.Kind.TheVariants.{Unsigned}
 use Rattle.ordering.specs.Order.{order}
 use Rattle.ordering.proofs.Ordered.{is_below, is-equal, is-above}

@@ -1,5 +1,5 @@
 -- `rows::order_floats` meets its contract: three tests tell the four orders apart.
-use Rattle.std.proofs.Common.{sym, ◌∙◌, rules}
+use Rattle.std.proofs.Common.{sym, ◌∙◌}
 use Rattle.float.specs.Floats.{flt_of, feq_of, fgt_of}
 use Rattle.ordering.proofs.FloatRows.{told_below, told-equal, told-above, told-unordered}
 use Rattle.ordering.proofs.rows.order_floats.Goals as goal
