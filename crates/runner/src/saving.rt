@@ -14,7 +14,13 @@ use std::rt::Files;
 const IMAGE_OUT: &str = "/dev/fd/4";
 
 // Puts the image into a buffer of its length, and the buffer into the stream.
-fn save_by(rt: &(impl Files + Eprint), registers: &[u32], memory: &[u8], machine: Machine, image: &mut [u8]) -> bool {
+fn save_by(
+    rt: &(impl Files + Eprint),
+    registers: &[u32],
+    memory: &[u8],
+    machine: Machine,
+    image: &mut [u8],
+) -> bool {
     let answer = image::write(registers, memory, machine, image);
     match answer {
         WriteAnswer::Refused(number) => {

@@ -1,16 +1,18 @@
-// The arguments, eight decimal numbers that the command gives: MASK MEMORY BUDGET RESUME SAVE LOOKS ROWS REST.
+// The arguments, eight decimal numbers that the command gives: MASK MEMORY BUDGET RESUME SAVE LOOKS ROWS REST. RESUME is 0 for a machine that is
+// started, 1 for one that stream 3 has, and 2 for one that standard input has; then stream 3 has the program.
 use files::complain;
 use std::rt::Env;
 use text::Argument;
 
-// What a run goes by. A machine that is resumed has its own mask and memory. Of the issues, the first `budget` are made, then `rows` with a
-// line for each, and then `rest`.
+// What a run goes by. A machine that is resumed has its own mask and memory; `image_first` says that it is standard input which has it. Of the
+// issues, the first `budget` are made, then `rows` with a line for each, and then `rest`.
 #[derive(Clone, Copy)]
 pub struct Settings {
     pub mask: u32,
     pub memory: u32,
     pub budget: u32,
     pub resume: bool,
+    pub image_first: bool,
     pub save: bool,
     pub looks: bool,
     pub rows: u32,
@@ -37,6 +39,7 @@ fn missing(rt: &impl Eprint) -> Settings {
         memory: 0,
         budget: 0,
         resume: false,
+        image_first: false,
         save: false,
         looks: false,
         rows: 0,
@@ -76,6 +79,7 @@ pub fn read_settings(rt: &(impl Env + Eprint)) -> Settings {
         memory,
         budget,
         resume: resume != 0,
+        image_first: resume == 2,
         save: save != 0,
         looks: looks != 0,
         rows,
