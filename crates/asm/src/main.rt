@@ -3,26 +3,25 @@
 
 use answer::PROGRAM_WORDS;
 use assembler::Assembly;
-use libc::STDIN_FILENO;
 
 // One byte more than a source may have, so that a longer one is seen, and refused.
 const ROOM: usize = 65537;
 
-fn assemble(source: &[u8]) {
+fn assemble(rt: &(impl Print + Eprint), source: &[u8]) {
     let mut words = [0u32; PROGRAM_WORDS];
     let answer = assembler::assemble(source, &mut words);
     match answer {
-        Assembly::Refused(number, line) => files::refuse_at(line, number),
-        Assembly::Assembled(count) => files::write_words(&words[..count]),
+        Assembly::Refused(number, line) => files::refuse_at(rt, line, number),
+        Assembly::Assembled(count) => files::write_words(rt, &words[..count]),
     }
 }
 
-fn main() {
+fn main(rt: HostRuntime) {
     let mut source = [0u8; ROOM];
-    let filled = files::read_stream(STDIN_FILENO, b"read the source", &mut source);
+    let filled = files::read_stream(&rt, &mut rt.reader(), "read the source", &mut source);
     let size = filled.size;
     if filled.failed {
         return;
     }
-    assemble(&source[..size]);
+    assemble(&rt, &source[..size]);
 }

@@ -7,13 +7,14 @@ mod serving;
 ghost use Rattle.io.specs.Counts.{IsPrefixLen};
 
 use answer::{PROGRAM_WORDS, REGISTER_WORDS};
-use libc::STDOUT_FILENO;
 use minute_lines::{Held, Line};
 use night::Kept;
 use program::INPUT_BYTES;
+use std::io;
+use std::rt::{Env, Files};
 
 // "starts a named file's little endian words, mask 255, memory 128 zeros"
-fn start(program: &[u32]) {
+fn start(rt: &(impl Input + Print + Eprint), program: &[u32]) {
     let mut registers = [0u32; REGISTER_WORDS];
     let mut memory = [0u8; serving::MEMORY];
     let started = interpreter::start(255, &mut registers);
@@ -23,30 +24,40 @@ fn start(program: &[u32]) {
         kept: Kept::Nothing,
         line: Line::Empty,
     };
-    serving::serve(program, &mut registers, &mut memory, held);
+    serving::serve(rt, program, &mut registers, &mut memory, held);
 }
 
 // Reads the file that the first argument names: how many bytes are at the start of the buffer. One that can't be opened or read is empty.
-fn read_program(bytes: &mut [u8; INPUT_BYTES]) -> usize
+fn read_program(rt: &(impl Env + Files + Eprint), bytes: &mut [u8; INPUT_BYTES]) -> usize
     ensures { IsPrefixLen result bytes.new }
 {
-    let mut name = io::buffer();
-    let length = os::arg(1, &mut name);
-    let filled = files::read_file(&name[..length], bytes);
+    let mut name = [0u8; 4096];
+    let Ok(length) = rt.arg(1, &mut name) else {
+        return 0;
+    };
+    let Ok(name) = str::from_utf8(&name[..length]) else {
+        return 0;
+    };
+    let filled = files::read_file(rt, name, bytes);
     if filled.failed {
         return 0;
     }
     filled.size
 }
 
-fn main() {
+fn main(rt: HostRuntime) {
     let mut bytes = [0u8; INPUT_BYTES];
-    let size = read_program(&mut bytes);
+    let size = read_program(&rt, &mut bytes);
     let mut program = [0u32; PROGRAM_WORDS];
     let count = program::words(&bytes[..size], &mut program);
     if count == 0 {
-        files::write_stream(STDOUT_FILENO, b"write standard output", b"refused 1\n");
+        files::write_stream(
+            &rt,
+            &mut io::writer(&rt),
+            "write standard output",
+            b"refused 1\n",
+        );
         return;
     }
-    start(&program[..count]);
+    start(&rt, &program[..count]);
 }

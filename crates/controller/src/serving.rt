@@ -1,7 +1,8 @@
 // The input served as it comes: a read takes what is there, be it part of a line or many, and each line is answered at its end.
 use answer::REGISTER_WORDS;
-use libc::{STDIN_FILENO, STDOUT_FILENO};
 use minute_lines::{Held, LONGEST};
+use std::io;
+use std::io::Read;
 
 // The bytes of memory.
 pub const MEMORY: usize = 128;
@@ -16,12 +17,13 @@ struct Served {
     more: bool,
 }
 
-fn print(text: &[u8]) -> bool {
-    files::write_stream(STDOUT_FILENO, b"write standard output", text)
+fn print(rt: &(impl Print + Eprint), text: &[u8]) -> bool {
+    files::write_stream(rt, &mut io::writer(rt), "write standard output", text)
 }
 
 // A byte of input, and the text that it calls for.
 fn serve_byte(
+    rt: &(impl Print + Eprint),
     program: &[u32],
     registers: &mut [u32; REGISTER_WORDS],
     memory: &mut [u8; MEMORY],
@@ -35,12 +37,13 @@ fn serve_byte(
     if length == 0 {
         return Served { held, more: true };
     }
-    let more = print(&out[..length]);
+    let more = print(rt, &out[..length]);
     Served { held, more }
 }
 
 // The end of the input.
 fn serve_end(
+    rt: &(impl Print + Eprint),
     program: &[u32],
     registers: &mut [u32; REGISTER_WORDS],
     memory: &mut [u8; MEMORY],
@@ -49,10 +52,11 @@ fn serve_end(
     let mut out = [0u8; LONGEST];
     let step = minute_lines::take_end(program, registers, memory, held, &mut out);
     let length = step.printed;
-    print(&out[..length]);
+    print(rt, &out[..length]);
 }
 
 fn serve_bytes(
+    rt: &(impl Print + Eprint),
     program: &[u32],
     registers: &mut [u32; REGISTER_WORDS],
     memory: &mut [u8; MEMORY],
@@ -61,7 +65,7 @@ fn serve_bytes(
 ) -> Served {
     let mut i = 0;
     while i < bytes.len() {
-        let served = serve_byte(program, registers, memory, held, bytes[i]);
+        let served = serve_byte(rt, program, registers, memory, held, bytes[i]);
         held = served.held;
         if !served.more {
             return Served { held, more: false };
@@ -72,36 +76,40 @@ fn serve_bytes(
 }
 
 // One read.
-fn serve_read(
+fn serve_read<R: Read>(
+    rt: &(impl Print + Eprint),
+    input: &mut R,
     program: &[u32],
     registers: &mut [u32; REGISTER_WORDS],
     memory: &mut [u8; MEMORY],
     held: Held,
 ) -> Served {
     let mut buf = [0u8; READ];
-    let got = libc::read(STDIN_FILENO, &mut buf);
-    if got < 0 {
-        files::fail(b"read standard input");
-        return Served { held, more: false };
+    match input.read(&mut buf) {
+        Ok(0) => {
+            serve_end(rt, program, registers, memory, held);
+            Served { held, more: false }
+        }
+        Ok(n) => serve_bytes(rt, program, registers, memory, held, &buf[..n]),
+        Err(error) => {
+            files::fail(rt, "read standard input", error);
+            Served { held, more: false }
+        }
     }
-    let n = io::count(got, &buf);
-    if n == 0 {
-        serve_end(program, registers, memory, held);
-        return Served { held, more: false };
-    }
-    serve_bytes(program, registers, memory, held, &buf[..n])
 }
 
 // All of the input. A proved loop has to end, and nothing says that an input does: it counts down from a number that no night uses up.
 pub fn serve(
+    rt: &(impl Input + Print + Eprint),
     program: &[u32],
     registers: &mut [u32; REGISTER_WORDS],
     memory: &mut [u8; MEMORY],
     mut held: Held,
 ) {
+    let mut input = rt.reader();
     let mut reads = u64::MAX;
     while reads > 0 {
-        let served = serve_read(program, registers, memory, held);
+        let served = serve_read(rt, &mut input, program, registers, memory, held);
         held = served.held;
         if !served.more {
             return;

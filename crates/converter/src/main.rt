@@ -5,16 +5,17 @@ ghost use Rattle.std.specs.Prelude.{◌≤◌, length};
 ghost use Rattle.answer.specs.Refusal.{memory_bytes};
 
 use answer::{BLOCK_BYTES, MEMORY_BYTES, REGISTER_WORDS};
-use files::{complain, read_stream, refuse, write_stream, write_synced};
+use files::{complain, read_stream, refuse, write_numbered_synced, write_stream};
 use image::{ReadAnswer, WriteAnswer};
 use image_layout::{Form, Shape};
 use image_sizes::{IMAGE_ROOM, LONGEST_IMAGE, image_size, memory_of};
-use libc::{STDIN_FILENO, STDOUT_FILENO};
 use machine::Machine;
+use std::io;
+use std::rt::{Env, Files};
 use text::Argument;
 
 // The stream of the image to write, which the command opens.
-const IMAGE_OUT: i32 = 4;
+const IMAGE_OUT: &str = "/dev/fd/4";
 
 // The form that is asked for, and whether counts of turns may be dropped.
 #[derive(Clone, Copy)]
@@ -39,15 +40,17 @@ fn write_form(
 }
 
 // Says which form was written.
-fn print(form: Form) {
+fn print(rt: &(impl Print + Eprint), form: Form) {
+    let mut output = io::writer(rt);
     match form {
-        Form::Newest => write_stream(STDOUT_FILENO, b"write standard output", b"newest form\n"),
-        Form::Old => write_stream(STDOUT_FILENO, b"write standard output", b"old form\n"),
+        Form::Newest => write_stream(rt, &mut output, "write standard output", b"newest form\n"),
+        Form::Old => write_stream(rt, &mut output, "write standard output", b"old form\n"),
     };
 }
 
 // Puts the image into a buffer of its length, and the buffer into the stream.
 fn save_by(
+    rt: &(impl Files + Print + Eprint),
     settings: Settings,
     registers: &[u32],
     memory: &[u8],
@@ -57,16 +60,22 @@ fn save_by(
     let form = settings.form;
     let answer = write_form(settings, registers, memory, machine, image);
     match answer {
-        WriteAnswer::Refused(number) => refuse(number),
+        WriteAnswer::Refused(number) => refuse(rt, number),
         WriteAnswer::Written => {
-            if write_synced(IMAGE_OUT, b"write the image", image) {
-                print(form);
+            if write_numbered_synced(rt, IMAGE_OUT, "write the image", image) {
+                print(rt, form);
             }
         }
     }
 }
 
-fn save(settings: Settings, registers: &[u32], memory: &[u8], machine: Machine)
+fn save(
+    rt: &(impl Files + Print + Eprint),
+    settings: Settings,
+    registers: &[u32],
+    memory: &[u8],
+    machine: Machine,
+)
     requires { length memory.now ≤ memory_bytes }
 {
     let mut image = [0u8; LONGEST_IMAGE];
@@ -76,11 +85,11 @@ fn save(settings: Settings, registers: &[u32], memory: &[u8], machine: Machine)
         blocks: (memory.len() / BLOCK_BYTES) as u16,
     };
     let size = image_size(shape);
-    save_by(settings, registers, memory, machine, &mut image[..size]);
+    save_by(rt, settings, registers, memory, machine, &mut image[..size]);
 }
 
 // Reads the machine, and writes it.
-fn convert(settings: Settings, image: &[u8], memory: &mut [u8])
+fn convert(rt: &(impl Files + Print + Eprint), settings: Settings, image: &[u8], memory: &mut [u8])
     requires { length memory.old ≤ memory_bytes }
 {
     let mut registers = [0u32; REGISTER_WORDS];
@@ -88,14 +97,14 @@ fn convert(settings: Settings, image: &[u8], memory: &mut [u8])
     let answer = read.answer;
     let machine = read.machine;
     match answer {
-        ReadAnswer::Refused(number) => refuse(number),
-        ReadAnswer::Restored => save(settings, &registers, memory, machine),
+        ReadAnswer::Refused(number) => refuse(rt, number),
+        ReadAnswer::Restored => save(rt, settings, &registers, memory, machine),
     }
 }
 
-fn load(settings: Settings) {
+fn load(rt: &(impl Input + Files + Print + Eprint), settings: Settings) {
     let mut image = [0u8; IMAGE_ROOM];
-    let filled = read_stream(STDIN_FILENO, b"read the image", &mut image);
+    let filled = read_stream(rt, &mut rt.reader(), "read the image", &mut image);
     let length = filled.size;
     if filled.failed {
         return;
@@ -103,18 +112,20 @@ fn load(settings: Settings) {
     let size = memory_of(length);
     let refused = answer::bad_memory(size);
     if refused {
-        refuse(9);
+        refuse(rt, 9);
         return;
     }
     let mut memory = [0u8; MEMORY_BYTES];
-    convert(settings, &image[..length], &mut memory[..size]);
+    convert(rt, settings, &image[..length], &mut memory[..size]);
 }
 
-// The number that argument i gives. One that is missing reads as an empty one, which is none.
-fn number_at(i: usize) -> Argument {
-    let mut text = io::buffer();
-    let length = os::arg(i, &mut text);
-    text::number_of(&text[..length])
+// The number that argument i gives. One that is missing is none.
+fn number_at(rt: &impl Env, i: usize) -> Argument {
+    let mut text = [0u8; 4096];
+    match rt.arg(i, &mut text) {
+        Ok(length) => text::number_of(&text[..length]),
+        Err(_) => Argument::Refused,
+    }
 }
 
 fn either(old: bool) -> Form {
@@ -125,17 +136,20 @@ fn either(old: bool) -> Form {
 }
 
 // Takes the arguments, two decimal numbers that the command gives: OLD DROP.
-fn main() {
-    let Argument::Number(old) = number_at(1) else {
-        complain(b"the converter takes two numbers: old, drop");
+fn main(rt: HostRuntime) {
+    let Argument::Number(old) = number_at(&rt, 1) else {
+        complain(&rt, "the converter takes two numbers: old, drop");
         return;
     };
-    let Argument::Number(drop) = number_at(2) else {
-        complain(b"the converter takes two numbers: old, drop");
+    let Argument::Number(drop) = number_at(&rt, 2) else {
+        complain(&rt, "the converter takes two numbers: old, drop");
         return;
     };
-    load(Settings {
-        form: either(old != 0),
-        dropping: drop != 0,
-    });
+    load(
+        &rt,
+        Settings {
+            form: either(old != 0),
+            dropping: drop != 0,
+        },
+    );
 }

@@ -3,28 +3,28 @@
 
 use answer::PROGRAM_WORDS;
 use intel_hex::{Exported, LONGEST};
-use libc::{STDIN_FILENO, STDOUT_FILENO};
 use program::INPUT_BYTES;
+use std::io;
 
-fn export(words: &[u32]) {
+fn export(rt: &(impl Print + Eprint), words: &[u32]) {
     let mut text = [0u8; LONGEST];
     let answer = intel_hex::export(words, &mut text);
     match answer {
-        Exported::Refused(number) => files::refuse(number),
+        Exported::Refused(number) => files::refuse(rt, number),
         Exported::Length(length) => {
-            files::write_stream(STDOUT_FILENO, b"write the file", &text[..length]);
+            files::write_stream(rt, &mut io::writer(rt), "write the file", &text[..length]);
         }
     }
 }
 
-fn main() {
+fn main(rt: HostRuntime) {
     let mut bytes = [0u8; INPUT_BYTES];
-    let filled = files::read_stream(STDIN_FILENO, b"read the program", &mut bytes);
+    let filled = files::read_stream(&rt, &mut rt.reader(), "read the program", &mut bytes);
     let size = filled.size;
     if filled.failed {
         return;
     }
     let mut words = [0u32; PROGRAM_WORDS];
     let count = program::words(&bytes[..size], &mut words);
-    export(&words[..count]);
+    export(&rt, &words[..count]);
 }

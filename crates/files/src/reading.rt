@@ -2,6 +2,9 @@
 ghost use Rattle.io.specs.Counts.{IsPrefixLen};
 
 use crate::complaints::fail;
+use std::fs;
+use std::io::Read;
+use std::rt::Files;
 
 // How many bytes are at the start of a buffer. A failure has been complained of.
 #[derive(Clone, Copy)]
@@ -11,31 +14,39 @@ pub struct Filled {
 }
 
 // Reads until the buffer is full or the stream ends; `failure` is what a complaint says can't be done.
-// io::read_full also stops where a read fails: one read more then fails as well.
-pub fn read_stream(fd: i32, failure: &[u8], buf: &mut [u8]) -> Filled
+pub fn read_stream<R: Read>(
+    rt: &impl Eprint,
+    stream: &mut R,
+    failure: &str,
+    buf: &mut [u8],
+) -> Filled
     ensures { IsPrefixLen result.size buf.new }
 {
-    let size = io::read_full(fd, buf);
-    let mut more = [0u8; 1];
-    let failed = libc::read(fd, &mut more) < 0;
-    if failed {
-        fail(failure);
+    let mut size = 0;
+    let mut failed = false;
+    while size < buf.len() {
+        match stream.read(&mut buf[size..]) {
+            Ok(0) => break,
+            Ok(n) => size += n,
+            Err(error) => {
+                fail(rt, failure, error);
+                failed = true;
+                break;
+            }
+        }
     }
     Filled { size, failed }
 }
 
 // Reads a file by its name: "in any program a file that will not open reads as empty" (document 02, T-10).
-pub fn read_file(name: &[u8], buf: &mut [u8]) -> Filled
+pub fn read_file(rt: &(impl Files + Eprint), name: &str, buf: &mut [u8]) -> Filled
     ensures { IsPrefixLen result.size buf.new }
 {
-    let fd = os::open_read(name);
-    if fd < 0 {
+    let Ok(mut file) = fs::open(rt, name) else {
         return Filled {
             size: 0,
             failed: false,
         };
-    }
-    let filled = read_stream(fd, b"read the file", buf);
-    libc::close(fd);
-    filled
+    };
+    read_stream(rt, &mut file, "read the file", buf)
 }

@@ -1,63 +1,108 @@
 // Bytes written to a stream or a file, all of them; what could not be written is complained of.
 use crate::complaints::{complain, fail};
-use libc::STDOUT_FILENO;
 use program::PROGRAM_BYTES;
-use text::put_text;
+use std::fmt::InlineText;
+use std::fs::{OpenFile, OpenOptions};
+use std::io::Write;
+use std::rt::Files;
+use std::{fs, io};
+
+// The longest name that a file may have.
+const NAME: usize = 4096;
+
+const PART: usize = 5;
 
 // Writes to a stream, and answers whether all was written; `failure` is what a complaint says can't be done.
-pub fn write_stream(fd: i32, failure: &[u8], bytes: &[u8]) -> bool {
-    let written = io::write_all(fd, bytes);
-    if !written {
-        fail(failure);
+pub fn write_stream<W: Write>(
+    rt: &impl Eprint,
+    stream: &mut W,
+    failure: &str,
+    bytes: &[u8],
+) -> bool {
+    match stream.write_all(bytes) {
+        Ok(()) => true,
+        Err(error) => {
+            fail(rt, failure, error);
+            false
+        }
     }
-    written
 }
 
 // Writes the bytes of a program's words to standard output.
-pub fn write_words(words: &[u32]) {
+pub fn write_words(rt: &(impl Print + Eprint), words: &[u32]) {
     let mut bytes = [0u8; PROGRAM_BYTES];
     let length = program::bytes(words, &mut bytes);
-    write_stream(STDOUT_FILENO, b"write the program", &bytes[..length]);
+    write_stream(
+        rt,
+        &mut io::writer(rt),
+        "write the program",
+        &bytes[..length],
+    );
+}
+
+fn write_to_device<F: Write + OpenFile>(stream: &mut F, bytes: &[u8]) -> io::Result<()> {
+    stream.write_all(bytes)?;
+    stream.sync_all()
 }
 
 // Writes to a stream, and waits until the bytes have reached their device.
-pub fn write_synced(fd: i32, failure: &[u8], bytes: &[u8]) -> bool {
-    let written = io::write_all(fd, bytes) && libc::fsync(fd) == 0;
-    if !written {
-        fail(failure);
+pub fn write_synced<F: Write + OpenFile>(
+    rt: &impl Eprint,
+    stream: &mut F,
+    failure: &str,
+    bytes: &[u8],
+) -> bool {
+    match write_to_device(stream, bytes) {
+        Ok(()) => true,
+        Err(error) => {
+            fail(rt, failure, error);
+            false
+        }
     }
-    written
+}
+
+// Makes a new file of these bytes; one that can't be written whole is removed again.
+fn write_new(rt: &(impl Files + Eprint), part: &str, bytes: &[u8]) -> bool {
+    match OpenOptions::new()
+        .write(true)
+        .create_new(true)
+        .open(rt, part)
+    {
+        Ok(mut file) => {
+            if write_synced(rt, &mut file, "write the file", bytes) {
+                return true;
+            }
+        }
+        Err(error) => {
+            fail(rt, "make a file beside the one to write", error);
+            return false;
+        }
+    }
+    let _ = fs::remove_file(rt, part);
+    false
 }
 
 // Writes a new file and gives it its name; where one of these fails, neither stays.
-fn write_part(part: &[u8], name: &[u8], bytes: &[u8]) -> bool {
-    let fd = os::create(part);
-    if fd < 0 {
-        fail(b"make a file beside the one to write");
+fn write_part(rt: &(impl Files + Eprint), part: &str, name: &str, bytes: &[u8]) -> bool {
+    if !write_new(rt, part, bytes) {
         return false;
     }
-    let written = write_synced(fd, b"write the file", bytes);
-    libc::close(fd);
-    if !written {
-        os::unlink(part);
-        return false;
+    match fs::rename(rt, part, name) {
+        Ok(()) => true,
+        Err(error) => {
+            fail(rt, "give the file its name", error);
+            let _ = fs::remove_file(rt, part);
+            false
+        }
     }
-    if os::rename(part, name) != 0 {
-        fail(b"give the file its name");
-        os::unlink(part);
-        return false;
-    }
-    true
 }
 
 // Writes a file whole or not at all: under its name with .part behind it, which becomes its name once all is written.
-pub fn write_file(name: &[u8], bytes: &[u8]) -> bool {
-    let mut part = io::buffer();
-    let length = put_text(&mut part, 0, name);
-    let whole = put_text(&mut part, length, b".part");
-    if whole == length {
-        complain(b"can't write the file: its name is too long");
+pub fn write_file(rt: &(impl Files + Eprint), name: &str, bytes: &[u8]) -> bool {
+    if NAME - PART < name.len() {
+        complain(rt, "can't write the file: its name is too long");
         return false;
     }
-    write_part(&part[..whole], name, bytes)
+    let part = InlineText::<NAME>::of(format_args!("{name}.part"));
+    write_part(rt, part.as_str(), name, bytes)
 }

@@ -3,7 +3,6 @@
 
 use answer::PROGRAM_WORDS;
 use intel_hex::Imported;
-use libc::STDIN_FILENO;
 use program::PROGRAM_BYTES;
 
 // The most bytes of a file that are taken: 16 for each byte of the longest program, where a record of one byte and its CR LF are 15. The
@@ -12,25 +11,28 @@ const LONGEST: usize = 16 * PROGRAM_BYTES;
 
 const ROOM: usize = LONGEST + 1;
 
-fn import(text: &[u8]) {
+fn import(rt: &(impl Print + Eprint), text: &[u8]) {
     let mut words = [0u32; PROGRAM_WORDS];
     let answer = intel_hex::import(text, &mut words);
     match answer {
-        Imported::Refused(number, line) => files::refuse_at(line, number),
-        Imported::Words(count) => files::write_words(&words[..count]),
+        Imported::Refused(number, line) => files::refuse_at(rt, line, number),
+        Imported::Words(count) => files::write_words(rt, &words[..count]),
     }
 }
 
-fn main() {
+fn main(rt: HostRuntime) {
     let mut text = [0u8; ROOM];
-    let filled = files::read_stream(STDIN_FILENO, b"read the file", &mut text);
+    let filled = files::read_stream(&rt, &mut rt.reader(), "read the file", &mut text);
     let size = filled.size;
     if filled.failed {
         return;
     }
     if LONGEST < size {
-        files::complain(b"can't import the file: it has more than 1,048,576 bytes");
+        files::complain(
+            &rt,
+            "can't import the file: it has more than 1,048,576 bytes",
+        );
         return;
     }
-    import(&text[..size]);
+    import(&rt, &text[..size]);
 }

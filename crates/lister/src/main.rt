@@ -1,18 +1,23 @@
 // The lister: reads a program's words from standard input and prints its listing.
 #![tactic(auto)]
 
-use libc::{STDIN_FILENO, STDOUT_FILENO};
 use listing::LONGEST;
 use program::INPUT_BYTES;
+use std::io;
 
-fn main() {
+fn main(rt: HostRuntime) {
     let mut input = [0u8; INPUT_BYTES];
-    let filled = files::read_stream(STDIN_FILENO, b"read standard input", &mut input);
+    let filled = files::read_stream(&rt, &mut rt.reader(), "read standard input", &mut input);
     let size = filled.size;
     if filled.failed {
         return;
     }
     let mut text = [0u8; LONGEST];
     let length = listing::list(&input[..size], &mut text);
-    files::write_stream(STDOUT_FILENO, b"write standard output", &text[..length]);
+    files::write_stream(
+        &rt,
+        &mut io::writer(&rt),
+        "write standard output",
+        &text[..length],
+    );
 }

@@ -2,12 +2,10 @@
 ghost use Rattle.std.specs.Prelude.{◌-◌, ◌≤◌};
 
 use interpreter::{Run, RunAnswer};
+use std::io;
 use thread_entry::Status;
 use trace::{PAGE_ROWS, Row};
 use trace_lines::PAGE_LONGEST;
-
-// The stream of a trace's lines, which the command opens.
-const LINES_OUT: i32 = 5;
 
 // A run, and whether all its lines were written.
 #[derive(Clone, Copy)]
@@ -17,10 +15,15 @@ pub struct Traced {
 }
 
 // Prints the lines of the first rows of a page, before which so many issues were made, and answers whether that was written.
-fn print_page(made: u32, rows: [Row; PAGE_ROWS], count: u32) -> bool {
+fn print_page(rt: &(impl Print + Eprint), made: u32, rows: [Row; PAGE_ROWS], count: u32) -> bool {
     let mut text = [0u8; PAGE_LONGEST];
     let length = trace_lines::write_page(made, rows, count, &mut text);
-    files::write_stream(LINES_OUT, b"write standard output", &text[..length])
+    files::write_stream(
+        rt,
+        &mut io::writer(rt),
+        "write standard output",
+        &text[..length],
+    )
 }
 
 // How many issues are still to be printed: none where no thread is running, or a line was lost.
@@ -52,6 +55,7 @@ fn behind_page(left: u32) -> u32
 
 // Goes on by so many issues, and prints a line for each, page by page.
 fn print_rows(
+    rt: &(impl Print + Eprint),
     program: &[u32],
     registers: &mut [u32],
     memory: &mut [u8],
@@ -79,7 +83,7 @@ fn print_rows(
         );
         let next = page.run;
         let list = page.rows;
-        printed = print_page(run.issues, list, next.issues);
+        printed = print_page(rt, run.issues, list, next.issues);
         run = trace::continued(run, next);
         left = still(run, printed, behind_page(left));
     }
@@ -88,6 +92,7 @@ fn print_rows(
 
 // Goes on by so many issues with lines, and so many without.
 pub fn go_on(
+    rt: &(impl Print + Eprint),
     program: &[u32],
     registers: &mut [u32],
     memory: &mut [u8],
@@ -95,7 +100,7 @@ pub fn go_on(
     rows: u32,
     rest: u32,
 ) -> Traced {
-    let traced = print_rows(program, registers, memory, first, rows);
+    let traced = print_rows(rt, program, registers, memory, first, rows);
     let printed = traced.printed;
     if (rest == 0) | !printed {
         return traced;

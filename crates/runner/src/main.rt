@@ -7,55 +7,81 @@ mod saving;
 mod settings;
 
 ghost use Rattle.std.specs.Prelude.{◌≤◌, length};
+ghost use Rattle.io.specs.Counts.{IsPrefixLen};
 ghost use Rattle.answer.specs.Refusal.{memory_bytes};
 
 use answer::{MEMORY_BYTES, PROGRAM_WORDS, REGISTER_WORDS};
-use files::{read_stream, refuse};
+use files::{Filled, read_numbered, read_stream, refuse, write_numbered, write_stream};
 use image::ReadAnswer;
 use image_sizes::{IMAGE_ROOM, memory_of};
 use interpreter::{Run, RunAnswer, StartAnswer};
-use libc::{STDIN_FILENO, STDOUT_FILENO};
 use machine::Machine;
 use program::INPUT_BYTES;
 use settings::Settings;
+use std::io;
+use std::rt::Files;
 
-// The stream of a machine to resume, which the command opens.
-const IMAGE_IN: i32 = 3;
+// The stream of a machine to resume, or of the program where standard input has the machine, which the command opens.
+const SECOND_IN: &str = "/dev/fd/3";
+
+// The stream of the report where the lines of a trace have standard output, which the command opens.
+const REPORT_OUT: &str = "/dev/fd/5";
+
+// Prints a part of the report, and answers whether that was written.
+fn write_out(rt: &(impl Files + Print + Eprint), settings: Settings, text: &[u8]) -> bool {
+    let failure = "write standard output";
+    if settings.rows == 0 {
+        return write_stream(rt, &mut io::writer(rt), failure, text);
+    }
+    write_numbered(rt, REPORT_OUT, failure, text)
+}
 
 // Prints how a run ended, and answers whether that was written.
-fn print(run: Run, registers: &[u32; REGISTER_WORDS]) -> bool {
+fn print(
+    rt: &(impl Files + Print + Eprint),
+    settings: Settings,
+    run: Run,
+    registers: &[u32; REGISTER_WORDS],
+) -> bool {
     let mut text = [0u8; report::LONGEST];
     let length = report::write_report(run, registers, &mut text);
-    files::write_stream(STDOUT_FILENO, b"write standard output", &text[..length])
+    write_out(rt, settings, &text[..length])
 }
 
 // Prints how many entries it looked at.
-fn print_looks(looks: u64) {
+fn print_looks(rt: &(impl Files + Print + Eprint), settings: Settings, looks: u64) {
     let mut text = [0u8; report::LOOKS_LONGEST];
     let length = report::write_looks(looks, &mut text);
-    files::write_stream(STDOUT_FILENO, b"write standard output", &text[..length]);
+    write_out(rt, settings, &text[..length]);
 }
 
 // Saves the machine where asked, and prints how the run ended: in this order, so that that is not printed of a run whose machine was to
 // be saved and was not.
-fn finish(settings: Settings, registers: &[u32; REGISTER_WORDS], memory: &[u8], run: Run)
+fn finish(
+    rt: &(impl Files + Print + Eprint),
+    settings: Settings,
+    registers: &[u32; REGISTER_WORDS],
+    memory: &[u8],
+    run: Run,
+)
     requires { length memory.now ≤ memory_bytes }
 {
     let machine = run.machine;
     if settings.save {
-        let saved = saving::save(registers, memory, machine);
+        let saved = saving::save(rt, registers, memory, machine);
         if !saved {
             return;
         }
     }
-    let printed = print(run, registers);
+    let printed = print(rt, settings, run, registers);
     if printed & settings.looks {
-        print_looks(run.looks);
+        print_looks(rt, settings, run.looks);
     }
 }
 
 // Runs the program. Where a line of its trace is lost, that is the end.
 fn run(
+    rt: &(impl Files + Print + Eprint),
     settings: Settings,
     program: &[u32],
     registers: &mut [u32; REGISTER_WORDS],
@@ -67,10 +93,11 @@ fn run(
     let first = interpreter::run(program, registers, memory, machine, settings.budget);
     let answer = first.answer;
     if let RunAnswer::Refused(number) = answer {
-        refuse(number);
+        refuse(rt, number);
         return;
     }
     let traced = going_on::go_on(
+        rt,
         program,
         registers,
         memory,
@@ -80,12 +107,12 @@ fn run(
     );
     if traced.printed {
         let whole = traced.run;
-        finish(settings, registers, memory, whole);
+        finish(rt, settings, registers, memory, whole);
     }
 }
 
 // Starts a machine on a memory of zeros, and runs the program.
-fn start(settings: Settings, program: &[u32], memory: &mut [u8])
+fn start(rt: &(impl Files + Print + Eprint), settings: Settings, program: &[u32], memory: &mut [u8])
     requires { length memory.old ≤ memory_bytes }
 {
     let mut registers = [0u32; REGISTER_WORDS];
@@ -93,24 +120,45 @@ fn start(settings: Settings, program: &[u32], memory: &mut [u8])
     let answer = started.answer;
     let machine = started.machine;
     match answer {
-        StartAnswer::Refused(number) => refuse(number),
-        StartAnswer::Started => run(settings, program, &mut registers, memory, machine),
+        StartAnswer::Refused(number) => refuse(rt, number),
+        StartAnswer::Started => run(rt, settings, program, &mut registers, memory, machine),
     }
 }
 
-fn begin(settings: Settings, program: &[u32]) {
+fn begin(rt: &(impl Files + Print + Eprint), settings: Settings, program: &[u32]) {
     let size = settings.memory as usize;
     let refused = answer::bad_memory(size);
     if refused {
-        refuse(3);
+        refuse(rt, 3);
         return;
     }
     let mut memory = [0u8; MEMORY_BYTES];
-    start(settings, program, &mut memory[..size]);
+    start(rt, settings, program, &mut memory[..size]);
+}
+
+// Reads standard input, or the stream that the command opens.
+fn read_one(
+    rt: &(impl Input + Files + Eprint),
+    standard: bool,
+    failure: &str,
+    buf: &mut [u8],
+) -> Filled
+    ensures { IsPrefixLen result.size buf.new }
+{
+    if standard {
+        return read_stream(rt, &mut rt.reader(), failure, buf);
+    }
+    read_numbered(rt, SECOND_IN, failure, buf)
 }
 
 // Reads a machine from an image, and runs the program on it.
-fn restore(settings: Settings, program: &[u32], image: &[u8], memory: &mut [u8])
+fn restore(
+    rt: &(impl Files + Print + Eprint),
+    settings: Settings,
+    program: &[u32],
+    image: &[u8],
+    memory: &mut [u8],
+)
     requires { length memory.old ≤ memory_bytes }
 {
     let mut registers = [0u32; REGISTER_WORDS];
@@ -118,14 +166,14 @@ fn restore(settings: Settings, program: &[u32], image: &[u8], memory: &mut [u8])
     let answer = read.answer;
     let machine = read.machine;
     match answer {
-        ReadAnswer::Refused(number) => refuse(number),
-        ReadAnswer::Restored => run(settings, program, &mut registers, memory, machine),
+        ReadAnswer::Refused(number) => refuse(rt, number),
+        ReadAnswer::Restored => run(rt, settings, program, &mut registers, memory, machine),
     }
 }
 
-fn resume(settings: Settings, program: &[u32]) {
+fn resume(rt: &(impl Input + Files + Print + Eprint), settings: Settings, program: &[u32]) {
     let mut image = [0u8; IMAGE_ROOM];
-    let filled = read_stream(IMAGE_IN, b"read the image", &mut image);
+    let filled = read_one(rt, settings.image_first, "read the image", &mut image);
     let length = filled.size;
     if filled.failed {
         return;
@@ -133,25 +181,25 @@ fn resume(settings: Settings, program: &[u32]) {
     let size = memory_of(length);
     let refused = answer::bad_memory(size);
     if refused {
-        refuse(9);
+        refuse(rt, 9);
         return;
     }
     let mut memory = [0u8; MEMORY_BYTES];
-    restore(settings, program, &image[..length], &mut memory[..size]);
+    restore(rt, settings, program, &image[..length], &mut memory[..size]);
 }
 
-fn go_on(settings: Settings, program: &[u32]) {
+fn go_on(rt: &(impl Input + Files + Print + Eprint), settings: Settings, program: &[u32]) {
     if settings.resume {
-        resume(settings, program);
+        resume(rt, settings, program);
     } else {
-        begin(settings, program);
+        begin(rt, settings, program);
     }
 }
 
 // Reads the program, and goes on with it.
-fn load(settings: Settings) {
+fn load(rt: &(impl Input + Files + Print + Eprint), settings: Settings) {
     let mut bytes = [0u8; INPUT_BYTES];
-    let filled = read_stream(STDIN_FILENO, b"read the program", &mut bytes);
+    let filled = read_one(rt, !settings.image_first, "read the program", &mut bytes);
     let size = filled.size;
     if filled.failed {
         return;
@@ -159,15 +207,15 @@ fn load(settings: Settings) {
     let mut program = [0u32; PROGRAM_WORDS];
     let count = program::words(&bytes[..size], &mut program);
     if count == 0 {
-        refuse(1);
+        refuse(rt, 1);
         return;
     }
-    go_on(settings, &program[..count]);
+    go_on(rt, settings, &program[..count]);
 }
 
-fn main() {
-    let settings = settings::read_settings();
+fn main(rt: HostRuntime) {
+    let settings = settings::read_settings(&rt);
     if settings.given {
-        load(settings);
+        load(&rt, settings);
     }
 }

@@ -1,15 +1,18 @@
-// The arguments, eight decimal numbers that the command gives: MASK MEMORY BUDGET RESUME SAVE LOOKS ROWS REST.
+// The arguments, eight decimal numbers that the command gives: MASK MEMORY BUDGET RESUME SAVE LOOKS ROWS REST. RESUME is 0 for a machine that is
+// started, 1 for one that stream 3 has, and 2 for one that standard input has; then stream 3 has the program.
 use files::complain;
+use std::rt::Env;
 use text::Argument;
 
-// What a run goes by. A machine that is resumed has its own mask and memory. Of the issues, the first `budget` are made, then `rows` with a
-// line for each, and then `rest`.
+// What a run goes by. A machine that is resumed has its own mask and memory; `image_first` says that it is standard input which has it. Of the
+// issues, the first `budget` are made, then `rows` with a line for each, and then `rest`.
 #[derive(Clone, Copy)]
 pub struct Settings {
     pub mask: u32,
     pub memory: u32,
     pub budget: u32,
     pub resume: bool,
+    pub image_first: bool,
     pub save: bool,
     pub looks: bool,
     pub rows: u32,
@@ -17,22 +20,26 @@ pub struct Settings {
     pub given: bool,
 }
 
-// The number that argument i gives. One that is missing reads as an empty one, which is none.
-fn number_at(i: usize) -> Argument {
-    let mut text = io::buffer();
-    let length = os::arg(i, &mut text);
-    text::number_of(&text[..length])
+// The number that argument i gives. One that is missing is none.
+fn number_at(rt: &impl Env, i: usize) -> Argument {
+    let mut text = [0u8; 4096];
+    match rt.arg(i, &mut text) {
+        Ok(length) => text::number_of(&text[..length]),
+        Err(_) => Argument::Refused,
+    }
 }
 
-fn missing() -> Settings {
+fn missing(rt: &impl Eprint) -> Settings {
     complain(
-        b"the runner takes eight numbers: mask, memory, budget, resume, save, looks, rows, rest",
+        rt,
+        "the runner takes eight numbers: mask, memory, budget, resume, save, looks, rows, rest",
     );
     Settings {
         mask: 0,
         memory: 0,
         budget: 0,
         resume: false,
+        image_first: false,
         save: false,
         looks: false,
         rows: 0,
@@ -42,36 +49,37 @@ fn missing() -> Settings {
 }
 
 // The settings that the arguments give; where they give none, that has been complained of.
-pub fn read_settings() -> Settings {
-    let Argument::Number(mask) = number_at(1) else {
-        return missing();
+pub fn read_settings(rt: &(impl Env + Eprint)) -> Settings {
+    let Argument::Number(mask) = number_at(rt, 1) else {
+        return missing(rt);
     };
-    let Argument::Number(memory) = number_at(2) else {
-        return missing();
+    let Argument::Number(memory) = number_at(rt, 2) else {
+        return missing(rt);
     };
-    let Argument::Number(budget) = number_at(3) else {
-        return missing();
+    let Argument::Number(budget) = number_at(rt, 3) else {
+        return missing(rt);
     };
-    let Argument::Number(resume) = number_at(4) else {
-        return missing();
+    let Argument::Number(resume) = number_at(rt, 4) else {
+        return missing(rt);
     };
-    let Argument::Number(save) = number_at(5) else {
-        return missing();
+    let Argument::Number(save) = number_at(rt, 5) else {
+        return missing(rt);
     };
-    let Argument::Number(looks) = number_at(6) else {
-        return missing();
+    let Argument::Number(looks) = number_at(rt, 6) else {
+        return missing(rt);
     };
-    let Argument::Number(rows) = number_at(7) else {
-        return missing();
+    let Argument::Number(rows) = number_at(rt, 7) else {
+        return missing(rt);
     };
-    let Argument::Number(rest) = number_at(8) else {
-        return missing();
+    let Argument::Number(rest) = number_at(rt, 8) else {
+        return missing(rt);
     };
     Settings {
         mask,
         memory,
         budget,
         resume: resume != 0,
+        image_first: resume == 2,
         save: save != 0,
         looks: looks != 0,
         rows,
