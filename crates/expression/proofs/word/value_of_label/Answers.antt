@@ -9,4 +9,4 @@ use Rattle.expression.proofs.word.value_of_label.Goals as goal
 pub returns : goal.returns
 returns c =
     let a = c.args in
-    c.label_at.ensures.0 ∙ ap (λ w. label_value (address_in a.source.now a.labels.now w)) (whole a.word.now)
+    c.label_at.ensures.value ∙ ap (λ w. label_value (address_in a.source.now a.labels.now w)) (whole a.word.now)
