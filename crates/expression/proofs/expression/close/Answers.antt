@@ -1,6 +1,5 @@
 use Rattle.token.proofs.Tokens.{place_read}
 use native.Mathlib.Omega.{arith}
-use borrow.Author.Rules.{rules}
 use Rattle.expression.proofs.expression.close.Goals as goal
 
 pub nest-requires : goal.nest-requires
@@ -16,9 +15,9 @@ pub returns-in-At : goal.returns-in-At
 returns-in-At c =
     let place = rw c.in-At.is at (place_read _ _ _ _ c.past_mark-place.ensures).1 in
     record {
-  read = rw (c.in-Read.is, ← (place_read _ _ _ _ c.past_mark-place.ensures).0, c.in-At.is, c.nest.ensures.value);
-  ahead = rw c.in-Read.is (place.0, place.1, c.nest.ensures.held);
-}
+      read = rw (c.in-Read.is, ← (place_read _ _ _ _ c.past_mark-place.ensures).0, c.in-At.is, c.nest.ensures.value);
+      ahead = rw c.in-Read.is (place.0, place.1, c.nest.ensures.held);
+    }
 
 pub returns-in-NoPlace : goal.returns-in-NoPlace
 returns-in-NoPlace c = record {

@@ -1,5 +1,4 @@
 use Rattle.expression.proofs.Steps.{expression-read}
-use borrow.Author.Rules.{rules}
 use Rattle.expression.proofs.expression.expression_at.Goals as goal
 
 pub returns : goal.returns
@@ -7,4 +6,4 @@ returns c =
     let a = c.args in
     let l = c.lead_at-lead in
     expression-read a.line.now a.source.now a.labels.now a.at l.result.next l.result.sign c.sum.result
-    l.ensures.0 c.sum.ensures.read
+    l.ensures.lead c.sum.ensures.read

@@ -1,7 +1,6 @@
 use Rattle.token.proofs.Tokens.{token-read}
 use native.Mathlib.Omega.{arith}
 use borrow.Author.Tests.{eq-eqb, ne_eqb}
-use borrow.Author.Rules.{rules}
 use Rattle.expression.proofs.sign.lead_at.Goals as goal
 
 pub returns-then-c-eq45 : goal.returns-then-c-eq45

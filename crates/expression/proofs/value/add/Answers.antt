@@ -1,8 +1,3 @@
-use mathlib.Core.Path.{sym, ap, ◌∙◌}
-use borrow.Author.Rules.{rules}
-use Rattle.expression.proofs.value.add.Reads as reads
-use Rattle.expression.proofs.value.add.Lts as lts
-use Rattle.expression.proofs.value.bound.Reads as bound-reads
 use Rattle.expression.proofs.value.add.Goals as goal
 
 -- src/value.rt:34:1

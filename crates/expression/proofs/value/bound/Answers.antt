@@ -1,9 +1,6 @@
-use mathlib.Core.Path.{refl}
 use native.Mathlib.Omega.{arith}
 use borrow.Author.Tests.{lt-ltb, le-ltb}
 use Rattle.expression.specs.Value.{bounded}
-use Rattle.expression.proofs.value.bound.Reads as reads
-use Rattle.expression.proofs.value.bound.Lts as lts
 use Rattle.expression.proofs.value.bound.Goals as goal
 
 -- src/value.rt:26:9

@@ -1,8 +1,5 @@
 use native.Mathlib.Omega.{arith}
 use borrow.Author.Tests.{eq-eqb, ne_eqb}
-use borrow.Author.Rules.{rules}
-use Rattle.expression.proofs.value.nest.Reads as reads
-use Rattle.expression.proofs.value.nest.Lts as lts
 use Rattle.expression.proofs.value.nest.Goals as goal
 
 -- src/value.rt:67:1

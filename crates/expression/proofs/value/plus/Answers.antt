@@ -1,8 +1,3 @@
-use native.Mathlib.Omega.{arith}
-use borrow.Author.Rules.{rules}
-use Rattle.expression.proofs.value.plus.Reads as reads
-use Rattle.expression.proofs.value.plus.Lts as lts
-use Rattle.expression.proofs.value.add.Reads as add_reads
 use Rattle.expression.proofs.value.plus.Goals as goal
 
 -- src/value.rt:59:32

@@ -1,16 +1,8 @@
-use Prim.Native.Nat.{◌+◌, ◌-◌, ◌≤◌}
-use mathlib.Core.Path.{◌≡◌, refl, sym, ap, ◌∙◌}
+use mathlib.Core.Path.{refl, sym, ap, ◌∙◌}
 use native.Mathlib.Omega.{arith}
-use borrow.Author.Rules.{rules}
-use lib.ListN.{length, drop}
 use lib.Seq.{slice}
 use Rattle.expression.proofs.Labels.{label-on, label-found, labels-end}
-use Rattle.expression.specs.Label.{address_in}
 use Rattle.expression.specs.Value.{label_value}
-use Rattle.expression.proofs.word.label_at.Reads as reads
-use Rattle.expression.proofs.word.label_at.Lts as lts
-use Rattle.expression.proofs.word.bound_up.Reads as bound-up-reads
-use Rattle.expression.proofs.word.same_word.Reads as same-word-reads
 use Rattle.expression.proofs.word.label_at.Goals as goal
 
 -- src/word.rt:119:5
@@ -22,9 +14,9 @@ pub returns-then-same_word : goal.returns-then-same_word
 returns-then-same_word c =
     let a = c.args in
     record {
-  value = c.bound_up.ensures.value ∙ ap label_value (label-found a.source.now a.labels.now (slice a.start a.stop a.line.now) c.loop-k.k (omega arith) (sym c.same_word.ensures ∙ c.if-same_word.true) ∙ c.loop-k.invariant.0);
-  held = c.bound_up.ensures.held;
-}
+      value = c.bound_up.ensures.value ∙ ap label_value (label-found a.source.now a.labels.now (slice a.start a.stop a.line.now) c.loop-k.k (omega arith) (sym c.same_word.ensures ∙ c.if-same_word.true) ∙ c.loop-k.invariant.0);
+      held = c.bound_up.ensures.held;
+    }
 
 -- src/word.rt:119:5
 pub loop-k-preserved : goal.loop-k-preserved
@@ -37,12 +29,6 @@ pub returns : goal.returns
 returns c =
     let a = c.args in
     record {
-  value = ap label_value (labels-end a.source.now a.labels.now (slice a.start a.stop a.line.now) c.loop-k.k (omega arith) ∙ c.loop-k.invariant.0);
-  held = omega arith;
-}
-
-pub overflow_cast-labels : goal.overflow_cast-labels
-overflow_cast-labels c = omega (arith, c.shared_slice_known-in-loop-k-1.given c.loop-k.k)
-
-pub overflow_cast-labels-then-same_word : goal.overflow_cast-labels-then-same_word
-overflow_cast-labels-then-same_word c = omega (arith, c.shared_slice_known-then-same_word-1.given (c.loop-k.k + 1))
+      value = ap label_value (labels-end a.source.now a.labels.now (slice a.start a.stop a.line.now) c.loop-k.k (omega arith) ∙ c.loop-k.invariant.0);
+      held = omega arith;
+    }

@@ -1,6 +1,5 @@
 -- `value_of_label` meets its contract: the whole of a text is its part from its start to its end.
 use mathlib.Core.Path.{ap, ◌∙◌}
-use borrow.Author.Rules.{rules}
 use Rattle.expression.specs.Label.{address_in}
 use Rattle.expression.specs.Value.{label_value}
 use Rattle.token.proofs.Numbers.{whole}
