@@ -18,7 +18,10 @@ returns-then-not-is_label c =
     let p = c.requires in
     let w = word-part x.line.now x.start x.stop p.1 p.4 in
     let h : is_label (leading_word (drop x.start x.line.now)) ≡ false = ap is_label (sym w) ∙ sym c.is_label.ensures ∙ c.if-not-is_label.true in
-    ((λ a. no_label a (leading_word (drop x.start x.line.now)) (tokens (drop x.next x.line.now)) h), omega arith)
+    record {
+  line = (λ a. no_label a (leading_word (drop x.start x.line.now)) (tokens (drop x.next x.line.now)) h);
+  label = omega arith;
+}
 
 pub returns-in-End : goal.returns-in-End
 returns-in-End c =
@@ -26,14 +29,23 @@ returns-in-End c =
     let p = c.requires in
     let w = word-part x.line.now x.start x.stop p.1 p.4 in
     let h : is_label (leading_word (drop x.start x.line.now)) ≡ true = ap is_label (sym w) ∙ sym c.is_label.ensures ∙ c.if-not-is_label.false in
-    ((λ a. a-label a (leading_word (drop x.start x.line.now)) (tokens (drop x.next x.line.now)) h (rw c.in-End.is at (token-read _ _ _ c.token_at-t.ensures).0)), omega arith)
+    record {
+  line = (λ a. a-label a (leading_word (drop x.start x.line.now)) (tokens (drop x.next x.line.now)) h (rw c.in-End.is at (token-read _ _ _ c.token_at-t.ensures).0));
+  label = omega arith;
+}
 
 pub returns-in-Word : goal.returns-in-Word
 returns-in-Word c =
     let x = c.args in
-    ((λ a. label-more a (leading_word (drop x.start x.line.now)) _ (tokens (drop x.next x.line.now)) _ (rw c.in-Word.is at (token-read _ _ _ c.token_at-t.ensures).0)), omega arith)
+    record {
+  line = (λ a. label-more a (leading_word (drop x.start x.line.now)) _ (tokens (drop x.next x.line.now)) _ (rw c.in-Word.is at (token-read _ _ _ c.token_at-t.ensures).0));
+  label = omega arith;
+}
 
 pub returns-in-Mark : goal.returns-in-Mark
 returns-in-Mark c =
     let x = c.args in
-    ((λ a. label-more a (leading_word (drop x.start x.line.now)) _ (tokens (drop x.next x.line.now)) _ (rw c.in-Mark.is at (token-read _ _ _ c.token_at-t.ensures).0)), omega arith)
+    record {
+  line = (λ a. label-more a (leading_word (drop x.start x.line.now)) _ (tokens (drop x.next x.line.now)) _ (rw c.in-Mark.is at (token-read _ _ _ c.token_at-t.ensures).0));
+  label = omega arith;
+}

@@ -5,4 +5,4 @@ use Rattle.statement.proofs.words.r_word.Goals as goal
 
 pub returns : goal.returns
 unfolding meaning_with
-returns c = rw (← c.bit.ensures.0, ← c.bit-2.ensures.0, ← c.bit-3.ensures.0) c.lettered.ensures
+returns c = rw (← c.bit.ensures.value, ← c.bit-2.ensures.value, ← c.bit-3.ensures.value) c.lettered.ensures
