@@ -9,7 +9,6 @@ use lib.ListN.{length, take}
 use borrow.Author.Tests.{lt-ltb, le-ltb}
 use mathlib.Core.Path.{◌≡◌, sym, ap, ◌∙◌}
 use native.Mathlib.Omega.{arith}
-use borrow.Author.Rules.{rules}
 use Rattle.statement.proofs.lines.line_of.Goals as goal
 
 pub returns-then-line-gt120 : goal.returns-then-line-gt120
@@ -32,6 +31,6 @@ returns c =
     let parsed_as : line_value (uncommented l) c.code_line.result ≡ evaluated_line a (code_line (uncommented l)) = rw t at c.code_line.ensures.line in
     let at : LabelInside (length (uncommented l)) c.code_line.result = rw t at c.code_line.ensures.label in
     record {
-  line = rw (le-ltb 120 _ c.if-line-gt120.false) (sym (seen-in-line l c.code_line.result at) ∙ parsed_as);
-  label = label-in l c.code_line.result at;
-}
+      line = rw (le-ltb 120 _ c.if-line-gt120.false) (sym (seen-in-line l c.code_line.result at) ∙ parsed_as);
+      label = label-in l c.code_line.result at;
+    }

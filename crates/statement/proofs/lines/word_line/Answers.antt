@@ -23,14 +23,14 @@ pub returns-in-Is : goal.returns-in-Is
 returns-in-Is c =
     let x = c.args in
     record {
-  line = rw (← (place_read _ _ _ _ c.past_mark-place.ensures).0, c.in-NoPlace.is, ← word-part x.line.now x.start x.stop c.requires.1 c.requires.2, ← c.named-found.ensures, c.in-Is.is) c.instruction_line.ensures.line;
-  label = c.instruction_line.ensures.label;
-}
+      line = rw (← (place_read _ _ _ _ c.past_mark-place.ensures).0, c.in-NoPlace.is, ← word-part x.line.now x.start x.stop c.requires.1 c.requires.2, ← c.named-found.ensures, c.in-Is.is) c.instruction_line.ensures.line;
+      label = c.instruction_line.ensures.label;
+    }
 
 pub returns-in-NoTemplate : goal.returns-in-NoTemplate
 returns-in-NoTemplate c =
     let x = c.args in
     record {
-  line = rw (← (place_read _ _ _ _ c.past_mark-place.ensures).0, c.in-NoPlace.is, ← word-part x.line.now x.start x.stop c.requires.1 c.requires.2, ← c.named-found.ensures, c.in-NoTemplate.is);
-  label = search rules;
-}
+      line = rw (← (place_read _ _ _ _ c.past_mark-place.ensures).0, c.in-NoPlace.is, ← word-part x.line.now x.start x.stop c.requires.1 c.requires.2, ← c.named-found.ensures, c.in-NoTemplate.is);
+      label = search rules;
+    }

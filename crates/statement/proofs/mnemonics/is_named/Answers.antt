@@ -1,11 +1,9 @@
 -- `is_named` meets its contract: the letter of I is the word's last, and the row's name stands before it.
 use Rattle.statement.proofs.Named.{longer, empty-longer}
-use borrow.Author.Tests.{not-true, not-false}
 use lib.ListN.{length, take}
 use lib.Seq.{length-take-le}
 use mathlib.Core.Path.{sym}
 use Prim.Native.Nat.{◌-◌}
-use borrow.Author.Rules.{rules}
 use native.Mathlib.Omega.{arith}
 use Rattle.statement.proofs.mnemonics.is_named.Goals as goal
 

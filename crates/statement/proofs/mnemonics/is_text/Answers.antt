@@ -2,10 +2,9 @@
 use Rattle.expression.proofs.Labels.{lengths_differ, byte-same, byte-other, both_end}
 use Rattle.token.proofs.Numbers.{whole}
 use Rattle.expression.specs.Label.{same}
-use lib.Seq.{slice, length-take-le}
+use lib.Seq.{length-take-le}
 use lib.ListN.{length, take}
-use Prim.Native.Nat.{◌-◌}
-use mathlib.Core.Path.{◌≡◌, ap, ◌∙◌}
+use mathlib.Core.Path.{ap, ◌∙◌}
 use native.Mathlib.Omega.{arith}
 use Rattle.statement.proofs.mnemonics.is_text.Goals as goal
 

@@ -1,6 +1,5 @@
 -- `template_in` meets its contract.
-use borrow.Author.Tests.{eq-eqb, ne_eqb, not-true, not-false}
-use borrow.Author.Rules.{rules}
+use borrow.Author.Tests.{eq-eqb, ne_eqb}
 use Rattle.statement.proofs.mnemonics.template_in.Goals as goal
 
 pub returns-then-not-immediate : goal.returns-then-not-immediate

@@ -1,7 +1,5 @@
 -- `next_operand` meets its contract.
 use Rattle.statement.specs.Field.{field_on}
-use borrow.Author.Tests.{not-true, not-false}
-use borrow.Author.Rules.{rules}
 use Rattle.statement.proofs.operands.next_operand.Goals as goal
 
 pub returns-then-not-is_operand : goal.returns-then-not-is_operand

@@ -1,6 +1,5 @@
 -- `i_word` meets its contract.
 use Rattle.statement.specs.Meaning.{meaning_with}
-use borrow.Author.Rules.{rules}
 use Rattle.statement.proofs.words.i_word.Goals as goal
 
 pub returns : goal.returns
