@@ -2,16 +2,15 @@
 use Rattle.assembler.proofs.Walking.{text_at, text-here, table_at, number_is, words-on, labels-on, few_words, one_label}
 use Rattle.assembler.proofs.Texts.{texts_at, texts-none, texts-all, end-in, walk-on, walk-rest, walk-found, walk_end}
 use Rattle.assembler.specs.Walk.{rule_of, judged}
-use Rattle.assembler.specs.Source.{first, first_from, texts_of, line_in, labels_from, labels_of, count}
+use Rattle.assembler.specs.Source.{texts_of, labels_from, count}
 use Rattle.expression.specs.Label.{address_in}
-use lib.ListN.{length, take, drop}
+use lib.ListN.{take, drop}
 use borrow.Author.Tests.{eq-eqb, ne_eqb}
-use borrow.Author.Rules.{rules}
 use native.Mathlib.Omega.{arith}
 use mathlib.Core.Path.{◌≡◌, refl, sym, ◌∙◌}
-use Prim.Native.Nat.{◌+◌, ◌-◌, ◌≤◌}
+use Prim.Native.Nat.{◌+◌}
 use mathlib.Core.Option.{none, some}
-use mathlib.Core.List.{◌∷◌, map}
+use mathlib.Core.List.{◌∷◌}
 use Rattle.assembler.proofs.lines.first_refused.Goals as goal
 
 pub loop-start-init : goal.loop-start-init

@@ -1,5 +1,4 @@
 -- `put_line` meets its contract.
-use borrow.Author.Rules.{rules}
 use Rattle.assembler.proofs.putting.put_line.Goals as goal
 
 pub bounds-words-k : goal.bounds-words-k

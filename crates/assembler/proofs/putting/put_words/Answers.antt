@@ -5,12 +5,11 @@ use Rattle.assembler.proofs.Texts.{texts_at, texts-none, end-in}
 use Rattle.assembler.specs.Walk.{line_word, words_in}
 use Rattle.assembler.specs.Source.{line_in, lines_of, words_from}
 use Rattle.expression.specs.Label.{address_in}
-use lib.ListN.{length, take, drop}
-use borrow.Author.Rules.{rules}
+use lib.ListN.{take}
 use native.Mathlib.Omega.{arith}
-use mathlib.Core.Path.{◌≡◌, refl, ◌∙◌}
-use Prim.Native.Nat.{◌+◌, ◌-◌, ◌*◌, ◌≤◌}
-use mathlib.Core.List.{◌++◌, map}
+use mathlib.Core.Path.{refl, ◌∙◌}
+use Prim.Native.Nat.{◌+◌, ◌*◌}
+use mathlib.Core.List.{map}
 use Rattle.assembler.proofs.putting.put_words.Goals as goal
 
 pub loop-start-init : goal.loop-start-init
