@@ -7,7 +7,7 @@ use native.Mathlib.Omega.{arith}
 use lib.ListN.{length, take, drop, set, length-set}
 use lib.Seq.{length-take-le}
 use Rattle.token.specs.Token.{leading_word}
-use Rattle.statement.specs.Line.{Line, line_of}
+use Rattle.statement.specs.Line.{line_of}
 use Rattle.statement.specs.Evaluation.{evaluated_line, line_value, LabelInside}
 use Rattle.statement.specs.declared.lines.Line as C
 use Rattle.statement.specs.declared.lines.Line.TheVariants.{Malformed, Blank, Label, Code}

@@ -7,7 +7,6 @@ use native.Mathlib.Omega.{arith}
 use lib.ListN.{length, drop}
 use Rattle.statement.specs.Line.{Line, blank, label, instruction, line_of}
 use Rattle.statement.specs.Evaluation.{LineValue, evaluated_line, line_value}
-use Rattle.statement.specs.Evaluation as LineValue
 use Rattle.statement.specs.Field.{value_in, operand_values_of}
 use Rattle.token.specs.Token.{leading_word}
 use Rattle.statement.specs.declared.lines.Line as C

@@ -4,7 +4,7 @@ use mathlib.Core.List.{List}
 use mathlib.Core.Path.{◌≡◌, sym, ap, ◌∙◌}
 use native.Mathlib.Omega.{arith}
 use lib.ListN.{length, drop, length-append}
-use Rattle.assembler.specs.Into.{Answer, assembled, refusal, Outcome, into, outcome_of, assembled_into}
+use Rattle.assembler.specs.Into.{Outcome, into, outcome_of, assembled_into}
 use Rattle.assembler.specs.Source.{Assembly, words, refused, assembly}
 use Rattle.assembler.specs.declared.assembling.Assembly as C
 use Rattle.assembler.specs.declared.assembling.Assembly.TheVariants as A

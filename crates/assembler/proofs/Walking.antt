@@ -9,7 +9,6 @@ use lib.Seq.{take_at, drop-drop}
 use Rattle.token.specs.Token.{leading_word}
 use Rattle.statement.specs.Line.{Line, line_of}
 use Rattle.statement.specs.Evaluation.{LineValue, evaluated_line, line_value, LabelInside}
-use Rattle.statement.specs.Evaluation as LineValue
 use Rattle.statement.specs.declared.lines.Line as C
 use Rattle.statement.specs.declared.lines.Line.TheVariants.{Malformed, Blank, Label, Code}
 use Rattle.token.proofs.Runs.{part-is}

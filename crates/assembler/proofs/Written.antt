@@ -7,7 +7,7 @@ use native.Mathlib.Numerals.{add-one}
 use native.Mathlib.Omega.{arith}
 use lib.ListN.{length, take, drop, set, length-set, length-append, length-take, take-append-drop}
 use lib.Seq.{take-suc-set, drop-drop, length-take-le, drop-set-lt}
-use Rattle.statement.specs.Line.{Line, line_of}
+use Rattle.statement.specs.Line.{line_of}
 use Rattle.statement.specs.Evaluation.{evaluated_line, line_value}
 use Rattle.statement.specs.declared.lines.Line as C
 use Rattle.statement.specs.declared.lines.Line.TheVariants.{Malformed, Blank, Label, Code}

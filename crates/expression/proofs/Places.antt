@@ -1,6 +1,6 @@
 -- Places in a line: what is left of it falls.
 use Prim.Native.Nat.{ℕ, ◌+◌, ◌-◌, ◌*◌, ◌<◌, ◌≤◌}
-use mathlib.Core.Path.{◌≡◌, refl}
+use mathlib.Core.Path.{◌≡◌}
 use native.Mathlib.Omega.{arith}
 use Rattle.expression.specs.Reading.{Advances, ParsedInRange, AdvancesPast}
 use Rattle.expression.specs.declared.expression.Parsed.{Parsed}

@@ -11,7 +11,7 @@ use Rattle.expression.specs.Grammar.{word_term, number_or}
 use Rattle.token.specs.Name.{is_label}
 use Rattle.token.specs.Number.{number as number_of}
 use Rattle.expression.specs.Reading.{word_value, term_value_of}
-use Rattle.expression.specs.Syntax.{Term, number, label}
+use Rattle.expression.specs.Syntax.{Term, label}
 use Rattle.token.specs.Token.{Token}
 use Rattle.expression.specs.Types.{Value}
 use Rattle.expression.specs.Value.{bounded, bias, label_value, value_term}

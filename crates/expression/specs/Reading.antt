@@ -3,7 +3,7 @@ use Rattle.std.specs.Prelude.{ℕ, ◌+◌, ◌-◌, ◌*◌, ◌≤◌, ◌<◌
 use Rattle.std.proofs.Math.Option.{Option, none, some}
 use Rattle.expression.specs.Grammar.{Parse, parse, term_at, sum_at}
 use Rattle.token.specs.Token.{past, Token, tokens}
-use Rattle.expression.specs.Syntax.{Term, Sum}
+use Rattle.expression.specs.Syntax.{Term}
 use Rattle.expression.specs.Label.{address_in}
 use Rattle.expression.specs.Types.{Sign, Value, Known, TooLarge, Unknown}
 use Rattle.expression.specs.Value.{bias, nested, value_term, value_sum}

@@ -1,5 +1,5 @@
 -- The value of a sum. "Every number, parenthesised sum and running sum from the left lies within plus or minus 2^31."
-use Rattle.std.specs.Prelude.{ℕ, ◌+◌, ◌-◌, ◌^◌, Bool, ◌||◌, cond, List, eqb, ltb}
+use Rattle.std.specs.Prelude.{ℕ, ◌+◌, ◌-◌, ◌^◌, ◌||◌, cond, List, eqb, ltb}
 use Rattle.std.proofs.Math.Option.{Option, none, some}
 use Rattle.expression.specs.Syntax.{Term, number, label, group, Sum, last, next, Expression}
 use Rattle.token.specs.Number.{limit}

@@ -8,7 +8,6 @@ use native.Mathlib.Omega.{arith}
 use borrow.Author.Tests.{eq-eqb, eqb-true, lt-ltb, le-leb, ltb-true, ltb-false}
 use lib.Dec.{eqb, ltb}
 use Rattle.answer.specs.Answer.{Answer, given, refused}
-use Rattle.isa.specs.Read.{read}
 use Rattle.isa.specs.Rule.{allows_j}
 use Rattle.isa.specs.Text.{bytes, bytes_from}
 use Rattle.isa.specs.Write.{write}

@@ -19,7 +19,7 @@ use Rattle.expression.specs.Label.{same}
 use Rattle.token.proofs.Runs.{skipped, behind-blanks, none_left, a-mark, a_word, run_fits}
 use Rattle.statement.specs.Mnemonic.{with_immediate, nameable, named_in, named, slots, has_operands}
 use Rattle.statement.specs.Operand.{Operands, operands_at}
-use Rattle.statement.specs.Line.{blank, label, instruction, uncommented, ended, instruction_by, named_line, label_line, by_colon, token_line, word_end, is_spaced, code_line, line_of}
+use Rattle.statement.specs.Line.{label, instruction, uncommented, ended, instruction_by, named_line, label_line, by_colon, token_line, word_end, is_spaced, code_line, line_of}
 use Rattle.statement.specs.Meaning.{bit}
 use Rattle.statement.specs.Claims.{Shortest}
 use Rattle.statement.proofs.Claims.{same_true}

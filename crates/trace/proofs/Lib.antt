@@ -1,5 +1,4 @@
 -- The laws that several proofs cite, and the proofs of the claims.
-pub mod Again
 pub mod Rules
 pub mod Lists
 pub mod Following

@@ -1,4 +1,4 @@
-// The traced run. Here `put_row` and `run_traced` alone hold the list of rows, and their proofs are walks by hand; all else goes by value.
+// The traced run. Here `put_row` and `run_traced` alone hold the list of rows; all else goes by value.
 ghost use Rattle.std.specs.Prelude.{◌≡◌, length, slice_set};
 ghost use Rattle.machine.specs.State.{state};
 ghost use Rattle.trace.specs.Traced.{least, is_spent, traced, run_traced};

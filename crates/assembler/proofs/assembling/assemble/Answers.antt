@@ -3,7 +3,6 @@ use Rattle.assembler.specs.Into.{assembled_into}
 use Rattle.assembler.specs.Source.{assembly}
 use lib.ListN.{length}
 use borrow.Author.Tests.{lt-ltb, le-ltb}
-use borrow.Author.Rules.{rules}
 use Rattle.assembler.proofs.assembling.assemble.Goals as goal
 
 pub returns-then-source-gt65536 : goal.returns-then-source-gt65536

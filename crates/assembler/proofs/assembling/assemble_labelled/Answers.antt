@@ -6,15 +6,14 @@ use lib.Seq.{length-take-le}
 use lib.ListN.{length, take}
 use mathlib.Core.Path.{sym, ap, ◌∙◌}
 use Prim.Native.Nat.{◌*◌}
-use borrow.Author.Rules.{rules}
 use Rattle.assembler.proofs.assembling.assemble_labelled.Goals as goal
 
 pub slice_bounds-assemble_lines-end : goal.slice_bounds-assemble_lines-end
-slice_bounds-assemble_lines-end c = let f = c.fill_labels-counts in sym (length-take-le (2 * f.result.labels) f.new.1.0 f.ensures.fits)
+slice_bounds-assemble_lines-end c = let f = c.fill_labels-counts in sym (length-take-le (2 * f.result.labels) f.new.table f.ensures.fits)
 
 pub returns : goal.returns
 returns c =
     let x = c.args in
     let l = x.source.now in
     let f = c.fill_labels-counts in
-    c.assemble_lines.ensures ∙ ap (λ a. into (of_lines a (length x.words.now) (lines_of l)) x.words.now) (by-table l (take (2 * f.result.labels) f.new.1.0) f.ensures.holds)
+    c.assemble_lines.ensures ∙ ap (λ a. into (of_lines a (length x.words.now) (lines_of l)) x.words.now) (by-table l (take (2 * f.result.labels) f.new.table) f.ensures.holds)

@@ -6,7 +6,6 @@ use Rattle.expression.specs.Label.{address_in}
 use lib.ListN.{length}
 use mathlib.Core.Option.{none, some}
 use mathlib.Core.Path.{◌≡◌, sym, ◌∙◌}
-use borrow.Author.Rules.{rules}
 use Rattle.assembler.proofs.assembling.assemble_lines.Goals as goal
 
 pub finish-requires : goal.finish-requires
@@ -22,19 +21,19 @@ returns-in-Refused c =
     let x = c.args in
     let l = x.source.now in
     let a = address_in l x.labels.now in
-    let g = c.by_labels-1.given in
-    let e : some (at-line g.0.0 g.0.1.0) ≡ first (label_number a) (lines_of l) = rw g.1 at c.first_refused-by_labels.ensures ∙ pass-labels l a in
-    labels-refused a (lines_of l) (length x.words.now) x.words.now g.0.0 g.0.1.0 e
+    let g = c.in-Refused in
+    let e : some (at-line g.number g.line) ≡ first (label_number a) (lines_of l) = rw g.is at c.first_refused-by_labels.ensures ∙ pass-labels l a in
+    labels-refused a (lines_of l) (length x.words.now) x.words.now g.number g.line e
 
 pub returns-in-Refused-by_words : goal.returns-in-Refused-by_words
 returns-in-Refused-by_words c =
     let x = c.args in
     let l = x.source.now in
     let a = address_in l x.labels.now in
-    let g = c.by_words-1.given in
+    let g = c.in-Refused-by_words in
     let d : none ≡ first (label_number a) (lines_of l) = rw c.in-Accepted.is at c.first_refused-by_labels.ensures ∙ pass-labels l a in
-    let e : some (at-line g.0.0 g.0.1.0) ≡ first (word_number a) (lines_of l) = rw g.1 at c.first_refused-by_words.ensures ∙ pass-words l a in
-    words-refused a (lines_of l) (length x.words.now) x.words.now g.0.0 g.0.1.0 d e
+    let e : some (at-line g.number g.line) ≡ first (word_number a) (lines_of l) = rw g.is at c.first_refused-by_words.ensures ∙ pass-words l a in
+    words-refused a (lines_of l) (length x.words.now) x.words.now g.number g.line d e
 
 pub returns-in-Accepted-by_words : goal.returns-in-Accepted-by_words
 returns-in-Accepted-by_words c =

@@ -4,7 +4,6 @@ use Rattle.assembler.specs.Into.{assembled}
 use Rattle.assembler.specs.Source.{lines_of, words_from}
 use Rattle.expression.specs.Label.{address_in}
 use mathlib.Core.Path.{sym, ap, ◌∙◌}
-use borrow.Author.Rules.{rules}
 use Rattle.assembler.proofs.assembling.finish.Goals as goal
 
 pub returns-then-bad_program : goal.returns-then-bad_program

@@ -2,7 +2,6 @@
 use Rattle.statement.specs.declared.lines.Line.TheVariants.{Label}
 use Rattle.statement.specs.Evaluation.{LabelInside}
 use native.Mathlib.Omega.{arith}
-use borrow.Author.Rules.{rules}
 use Rattle.assembler.proofs.labels.enter.Goals as goal
 
 pub overflow_add-table : goal.overflow_add-table

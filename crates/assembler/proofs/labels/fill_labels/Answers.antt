@@ -1,16 +1,12 @@
 -- `fill_labels` meets its contract.
 use Rattle.assembler.proofs.Filling.{entered-length, labels-further, count-further, labels-begin, count-begin, labels-end, count-end}
 use Rattle.assembler.proofs.Walking.{text_at, text-length, label-longer, few-labels, few_words, one_label}
-use Rattle.assembler.proofs.Texts.{texts_at, texts-none, end-in}
-use Rattle.assembler.specs.Walk.{entries}
-use Rattle.assembler.specs.Source.{line_in, lines_of, labels_from, labels_of, count}
+use Rattle.assembler.proofs.Texts.{texts-none, end-in}
 use Rattle.expression.specs.Label.{address_in}
 use lib.ListN.{length, take}
-use borrow.Author.Rules.{rules}
 use native.Mathlib.Omega.{arith}
-use mathlib.Core.Path.{◌≡◌, refl, ap, ◌∙◌}
-use Prim.Native.Nat.{◌+◌, ◌-◌, ◌*◌, ◌≤◌}
-use mathlib.Core.List.{◌++◌, map}
+use mathlib.Core.Path.{refl, ap, ◌∙◌}
+use Prim.Native.Nat.{◌≤◌}
 use Rattle.assembler.proofs.labels.fill_labels.Goals as goal
 
 pub loop-start-init : goal.loop-start-init
@@ -32,7 +28,7 @@ enter-requires c =
     let e = c.line_end-end in
     let h = end-in x.source.now p.start e.result (omega arith) e.ensures in
     let t = text-length x.source.now p.start e.result (omega arith) e.ensures in
-    (omega arith, omega arith, omega arith, omega arith, label-longer (length (text_at x.source.now p.start e.result)) 65536 c.line_of-line.result (omega arith) c.line_of-line.ensures.1)
+    (omega arith, omega arith, omega arith, omega arith, label-longer (length (text_at x.source.now p.start e.result)) 65536 c.line_of-line.result (omega arith) c.line_of-line.ensures.label)
 
 pub overflow_add-n : goal.overflow_add-n
 overflow_add-n c = omega (arith, c.labels_in-n.ensures, one_label c.line_of-line.result)
@@ -60,8 +56,8 @@ loop-start-preserved c =
     let w = c.words_in-words.ensures in
     let o = one_label r in
     let f = few_words r in
-    let g = few-labels (length (text_at l p.start e.result)) r c.line_of-line.ensures.1 in
-    (rw (m, w, c.enter.ensures) (labels-further l p.start e.result k e.ensures a r c.line_of-line.ensures.0 p.words p.table p.n (omega arith) c.line_of-line.ensures.1 p.invariant.0), rw w (count-further l p.start e.result k e.ensures a r c.line_of-line.ensures.0 p.words p.invariant.1), omega arith, omega arith, omega arith, ap length c.enter.ensures ∙ entered-length r p.start p.n p.words p.table ∙ p.invariant.5)
+    let g = few-labels (length (text_at l p.start e.result)) r c.line_of-line.ensures.label in
+    (rw (m, w, c.enter.ensures) (labels-further l p.start e.result k e.ensures a r c.line_of-line.ensures.line p.words p.table p.n (omega arith) c.line_of-line.ensures.label p.invariant.0), rw w (count-further l p.start e.result k e.ensures a r c.line_of-line.ensures.line p.words p.invariant.1), omega arith, omega arith, omega arith, ap length c.enter.ensures ∙ entered-length r p.start p.n p.words p.table ∙ p.invariant.5)
 
 pub returns : goal.returns
 returns c =

@@ -1,14 +1,9 @@
 -- `fill_labels` meets its contract.
-use Rattle.assembler.proofs.Filling.{entered-length, labels-further, count-further, labels-begin, count-begin, labels-end, count-end}
-use Rattle.assembler.proofs.Walking.{text_at, text-length, label-longer, few-labels, few_words, one_label}
-use Rattle.assembler.proofs.Texts.{texts_at, texts-none, end-in}
+use Rattle.assembler.proofs.Texts.{texts_at}
 use Rattle.assembler.specs.Walk.{entries}
 use Rattle.assembler.specs.Source.{line_in, lines_of, labels_from, labels_of, count}
-use Rattle.expression.specs.Label.{address_in}
 use lib.ListN.{length, take}
-use borrow.Author.Rules.{rules}
-use native.Mathlib.Omega.{arith}
-use mathlib.Core.Path.{◌≡◌, refl, ap, ◌∙◌}
+use mathlib.Core.Path.{◌≡◌}
 use Prim.Native.Nat.{◌+◌, ◌-◌, ◌*◌, ◌≤◌}
 use mathlib.Core.List.{◌++◌, map}
 use Rattle.assembler.proofs.labels.fill_labels.Given as goal

@@ -2,16 +2,15 @@
 use Rattle.assembler.proofs.Walking.{text_at, text-here, table_at, number_is, words-on, labels-on, few_words, one_label}
 use Rattle.assembler.proofs.Texts.{texts_at, texts-none, texts-all, end-in, walk-on, walk-rest, walk-found, walk_end}
 use Rattle.assembler.specs.Walk.{rule_of, judged}
-use Rattle.assembler.specs.Source.{first, first_from, texts_of, line_in, labels_from, labels_of, count}
+use Rattle.assembler.specs.Source.{texts_of, labels_from, count}
 use Rattle.expression.specs.Label.{address_in}
-use lib.ListN.{length, take, drop}
+use lib.ListN.{take, drop}
 use borrow.Author.Tests.{eq-eqb, ne_eqb}
-use borrow.Author.Rules.{rules}
 use native.Mathlib.Omega.{arith}
 use mathlib.Core.Path.{◌≡◌, refl, sym, ◌∙◌}
-use Prim.Native.Nat.{◌+◌, ◌-◌, ◌≤◌}
+use Prim.Native.Nat.{◌+◌}
 use mathlib.Core.Option.{none, some}
-use mathlib.Core.List.{◌∷◌, map}
+use mathlib.Core.List.{◌∷◌}
 use Rattle.assembler.proofs.lines.first_refused.Goals as goal
 
 pub loop-start-init : goal.loop-start-init
@@ -31,7 +30,7 @@ pub judge-number-requires : goal.judge-number-requires
 judge-number-requires c =
     let x = c.args in
     let p = c.loop-start in
-    (table_at x.source.now x.labels.now p.before p.n p.invariant.4 x.pass c.requires.1, c.line_of-line.ensures.1, omega arith)
+    (table_at x.source.now x.labels.now p.before p.n p.invariant.4 x.pass c.requires.1, c.line_of-line.ensures.label, omega arith)
 
 pub returns-then-number-ne0 : goal.returns-then-number-ne0
 returns-then-number-ne0 c =
@@ -43,7 +42,7 @@ returns-then-number-ne0 c =
     let T = text_at l p.start e.result in
     let here : drop p.before (texts_of l) ≡ T ∷ texts_at l (e.result + 1) = p.invariant.0 ∙ text-here l p.start e.result (omega arith) e.ensures in
     let num : judged c.judge-number.result ≡ some c.judge-number.result = rw (ne_eqb c.judge-number.result 0 c.if-number-ne0.true) in
-    let rule : rule_of x.pass a (take p.before (texts_of l)) T ≡ some c.judge-number.result = sym (c.judge-number.ensures ∙ number_is l x.labels.now p.before p.n p.invariant.4 x.pass a p.words T c.line_of-line.result c.requires.1 p.invariant.5 c.line_of-line.ensures.0) ∙ num in
+    let rule : rule_of x.pass a (take p.before (texts_of l)) T ≡ some c.judge-number.result = sym (c.judge-number.ensures ∙ number_is l x.labels.now p.before p.n p.invariant.4 x.pass a p.words T c.line_of-line.result c.requires.1 p.invariant.5 c.line_of-line.ensures.line) ∙ num in
     sym (walk-found (texts_of l) p.before T (texts_at l (e.result + 1)) here (rule_of x.pass a) c.judge-number.result rule) ∙ p.invariant.1
 
 pub overflow_add-n : goal.overflow_add-n
@@ -69,13 +68,13 @@ loop-start-preserved c =
     let T = text_at l p.start e.result in
     let here : drop p.before (texts_of l) ≡ T ∷ texts_at l (e.result + 1) = p.invariant.0 ∙ text-here l p.start e.result (omega arith) e.ensures in
     let num : judged c.judge-number.result ≡ none = rw (eq-eqb c.judge-number.result 0 c.if-number-ne0.false) in
-    let rule : rule_of x.pass a (take p.before (texts_of l)) T ≡ none = sym (c.judge-number.ensures ∙ number_is l x.labels.now p.before p.n p.invariant.4 x.pass a p.words T r c.requires.1 p.invariant.5 c.line_of-line.ensures.0) ∙ num in
+    let rule : rule_of x.pass a (take p.before (texts_of l)) T ≡ none = sym (c.judge-number.ensures ∙ number_is l x.labels.now p.before p.n p.invariant.4 x.pass a p.words T r c.requires.1 p.invariant.5 c.line_of-line.ensures.line) ∙ num in
     let h = end-in l p.start e.result (omega arith) e.ensures in
     let m = c.labels_in-n.ensures in
     let w = c.words_in-words.ensures in
     let o = one_label r in
     let f = few_words r in
-    (walk-rest (texts_of l) p.before T (texts_at l (e.result + 1)) here, walk-on (texts_of l) p.before T (texts_at l (e.result + 1)) here (rule_of x.pass a) rule ∙ p.invariant.1, omega arith, omega arith, rw m (labels-on l p.before a T (texts_at l (e.result + 1)) r here c.line_of-line.ensures.0 p.n p.invariant.4), rw w (words-on l p.before a T (texts_at l (e.result + 1)) r here c.line_of-line.ensures.0 p.words p.invariant.5), omega arith, omega arith)
+    (walk-rest (texts_of l) p.before T (texts_at l (e.result + 1)) here, walk-on (texts_of l) p.before T (texts_at l (e.result + 1)) here (rule_of x.pass a) rule ∙ p.invariant.1, omega arith, omega arith, rw m (labels-on l p.before a T (texts_at l (e.result + 1)) r here c.line_of-line.ensures.line p.n p.invariant.4), rw w (words-on l p.before a T (texts_at l (e.result + 1)) r here c.line_of-line.ensures.line p.words p.invariant.5), omega arith, omega arith)
 
 pub returns : goal.returns
 returns c =

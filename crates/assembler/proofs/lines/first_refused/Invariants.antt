@@ -1,17 +1,12 @@
 -- `first_refused` meets its contract.
-use Rattle.assembler.proofs.Walking.{text_at, text-here, table_at, number_is, words-on, labels-on, few_words, one_label}
-use Rattle.assembler.proofs.Texts.{texts_at, texts-none, texts-all, end-in, walk-on, walk-rest, walk-found, walk_end}
-use Rattle.assembler.specs.Walk.{rule_of, judged}
-use Rattle.assembler.specs.Source.{first, first_from, texts_of, line_in, labels_from, labels_of, count}
+use Rattle.assembler.proofs.Texts.{texts_at}
+use Rattle.assembler.specs.Walk.{rule_of}
+use Rattle.assembler.specs.Source.{first, first_from, texts_of, line_in, labels_of, count}
 use Rattle.expression.specs.Label.{address_in}
 use lib.ListN.{length, take, drop}
-use borrow.Author.Tests.{eq-eqb, ne_eqb}
-use borrow.Author.Rules.{rules}
-use native.Mathlib.Omega.{arith}
-use mathlib.Core.Path.{◌≡◌, refl, sym, ◌∙◌}
+use mathlib.Core.Path.{◌≡◌}
 use Prim.Native.Nat.{◌+◌, ◌-◌, ◌≤◌}
-use mathlib.Core.Option.{none, some}
-use mathlib.Core.List.{◌∷◌, map}
+use mathlib.Core.List.{map}
 use Rattle.assembler.proofs.lines.first_refused.Given as goal
 
 abbrev pub invariant-loop-start : goal.invariant-loop-start

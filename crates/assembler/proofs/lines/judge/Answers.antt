@@ -5,7 +5,6 @@ use Rattle.statement.specs.declared.lines.Line.TheVariants.{Label}
 use Rattle.statement.specs.Evaluation.{LabelInside}
 use lib.ListN.{length}
 use native.Mathlib.Omega.{arith}
-use borrow.Author.Rules.{rules}
 use Rattle.assembler.proofs.lines.judge.Goals as goal
 
 pub judge_label-requires : goal.judge_label-requires

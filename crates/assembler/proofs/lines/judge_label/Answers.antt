@@ -12,7 +12,6 @@ use lib.ListN.{take, drop}
 use mathlib.Core.Path.{◌≡◌, sym, ap, ◌∙◌}
 use Prim.Native.Nat.{◌*◌}
 use native.Mathlib.Omega.{arith}
-use borrow.Author.Rules.{rules}
 use Rattle.assembler.proofs.lines.judge_label.Goals as goal
 
 pub returns-then-n-ge256 : goal.returns-then-n-ge256

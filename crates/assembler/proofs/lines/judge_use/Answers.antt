@@ -1,5 +1,4 @@
 -- `judge_use` meets its contract.
-use borrow.Author.Rules.{rules}
 use Rattle.assembler.proofs.lines.judge_use.Goals as goal
 
 pub returns-in-Unknown : goal.returns-in-Unknown

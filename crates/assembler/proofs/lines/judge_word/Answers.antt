@@ -1,5 +1,4 @@
 -- `judge_word` meets its contract.
-use borrow.Author.Rules.{rules}
 use Rattle.assembler.proofs.lines.judge_word.Goals as goal
 
 pub returns-in-Word : goal.returns-in-Word

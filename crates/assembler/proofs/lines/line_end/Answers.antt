@@ -1,10 +1,7 @@
 -- `line_end` meets its contract.
-use Prim.Native.Nat.{◌+◌, ◌-◌}
-use mathlib.Core.Path.{◌≡◌, refl, ◌∙◌}
+use mathlib.Core.Path.{refl, ◌∙◌}
 use native.Mathlib.Omega.{arith}
-use lib.ListN.{length, drop}
 use Rattle.statement.proofs.Ends.{upto-on, upto-stops, upto-ends}
-use Rattle.assembler.specs.Walk.{first_text}
 use Rattle.assembler.proofs.lines.line_end.Goals as goal
 
 pub returns-then-source-i-eq10 : goal.returns-then-source-i-eq10

@@ -1,9 +1,7 @@
 -- `line_end` meets its contract.
 use Prim.Native.Nat.{◌+◌, ◌-◌}
-use mathlib.Core.Path.{◌≡◌, refl, ◌∙◌}
-use native.Mathlib.Omega.{arith}
+use mathlib.Core.Path.{◌≡◌}
 use lib.ListN.{length, drop}
-use Rattle.statement.proofs.Ends.{upto-on, upto-stops, upto-ends}
 use Rattle.assembler.specs.Walk.{first_text}
 use Rattle.assembler.proofs.lines.line_end.Given as goal
 

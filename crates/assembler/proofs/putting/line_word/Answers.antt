@@ -1,5 +1,4 @@
 -- `line_word` meets its contract.
-use borrow.Author.Rules.{rules}
 use Rattle.assembler.proofs.putting.line_word.Goals as goal
 
 pub returns-in-TooLarge : goal.returns-in-TooLarge

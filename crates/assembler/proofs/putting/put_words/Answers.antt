@@ -5,12 +5,11 @@ use Rattle.assembler.proofs.Texts.{texts_at, texts-none, end-in}
 use Rattle.assembler.specs.Walk.{line_word, words_in}
 use Rattle.assembler.specs.Source.{line_in, lines_of, words_from}
 use Rattle.expression.specs.Label.{address_in}
-use lib.ListN.{length, take, drop}
-use borrow.Author.Rules.{rules}
+use lib.ListN.{take}
 use native.Mathlib.Omega.{arith}
-use mathlib.Core.Path.{◌≡◌, refl, ◌∙◌}
-use Prim.Native.Nat.{◌+◌, ◌-◌, ◌*◌, ◌≤◌}
-use mathlib.Core.List.{◌++◌, map}
+use mathlib.Core.Path.{refl, ◌∙◌}
+use Prim.Native.Nat.{◌+◌, ◌*◌}
+use mathlib.Core.List.{map}
 use Rattle.assembler.proofs.putting.put_words.Goals as goal
 
 pub loop-start-init : goal.loop-start-init
@@ -33,7 +32,7 @@ put_line-k-requires c =
     let e = c.line_end-end in
     let r = c.line_of-line.result in
     let a = address_in l x.labels.now in
-    let here = words-here l p.start e.result (omega arith) e.ensures a r c.line_of-line.ensures.0 (words_from a 0 (lines_of l)) (take p.k p.words) p.before p.invariant.0 in
+    let here = words-here l p.start e.result (omega arith) e.ensures a r c.line_of-line.ensures.line (words_from a 0 (lines_of l)) (take p.k p.words) p.before p.invariant.0 in
     (omega arith, omega arith, room p.k p.words (words_from a 0 (lines_of l)) (words_from a (4 * (p.before + words_in r)) (map line_in (texts_at l (e.result + 1)))) (line_word p.before r) here (omega arith))
 
 pub overflow_add-before : goal.overflow_add-before
@@ -56,14 +55,14 @@ loop-start-preserved c =
     let o = line_word p.before r in
     let rest = words_from a (4 * (p.before + words_in r)) (map line_in (texts_at l (e.result + 1))) in
     let ws = words_from a 0 (lines_of l) in
-    let here = words-here l p.start e.result (omega arith) e.ensures a r c.line_of-line.ensures.0 ws (take p.k p.words) p.before p.invariant.0 in
+    let here = words-here l p.start e.result (omega arith) e.ensures a r c.line_of-line.ensures.line ws (take p.k p.words) p.before p.invariant.0 in
     let fits = room p.k p.words ws rest o here (omega arith) in
     let h = end-in l p.start e.result (omega arith) e.ensures in
     let w = c.words_in-before.ensures in
     let f = few_words r in
     let g = few p.k p.before r in
-    let c1 = c.put_line-k.ensures.0 in
-    let c2 = c.put_line-k.ensures.1 in
+    let c1 = c.put_line-k.ensures.count in
+    let c2 = c.put_line-k.ensures.buffer in
     (rw (w, c1, c2) (words-stored p.k p.words ws rest o fits here), rw (c1, c2) (rest-stored p.k p.words ws rest x.words.now o p.invariant.1), rw (c1, c2) (stored-fits p.k p.words ws rest o fits p.invariant.2), rw c2 (stored-length p.k o p.words ∙ p.invariant.3), omega arith, omega arith, omega arith)
 
 pub returns : goal.returns

@@ -1,14 +1,9 @@
 -- `put_words` meets its contract.
-use Rattle.assembler.proofs.Written.{stored-length, few, room, words-stored, stored-fits, rest-stored, words-here, words-begin, words-end}
-use Rattle.assembler.proofs.Walking.{few_words}
-use Rattle.assembler.proofs.Texts.{texts_at, texts-none, end-in}
-use Rattle.assembler.specs.Walk.{line_word, words_in}
+use Rattle.assembler.proofs.Texts.{texts_at}
 use Rattle.assembler.specs.Source.{line_in, lines_of, words_from}
 use Rattle.expression.specs.Label.{address_in}
 use lib.ListN.{length, take, drop}
-use borrow.Author.Rules.{rules}
-use native.Mathlib.Omega.{arith}
-use mathlib.Core.Path.{◌≡◌, refl, ◌∙◌}
+use mathlib.Core.Path.{◌≡◌}
 use Prim.Native.Nat.{◌+◌, ◌-◌, ◌*◌, ◌≤◌}
 use mathlib.Core.List.{◌++◌, map}
 use Rattle.assembler.proofs.putting.put_words.Given as goal

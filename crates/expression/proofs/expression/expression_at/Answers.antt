@@ -1,16 +1,9 @@
 use Rattle.expression.proofs.Steps.{expression-read}
-use borrow.Author.Rules.{rules}
 use Rattle.expression.proofs.expression.expression_at.Goals as goal
-
-pub lead_at-lead-requires : goal.lead_at-lead-requires
-lead_at-lead-requires c = search rules
-
-pub sum-requires : goal.sum-requires
-sum-requires c = search rules
 
 pub returns : goal.returns
 returns c =
     let a = c.args in
     let l = c.lead_at-lead in
     expression-read a.line.now a.source.now a.labels.now a.at l.result.next l.result.sign c.sum.result
-    l.ensures.0 c.sum.ensures.0
+    l.ensures.lead c.sum.ensures.read

@@ -10,33 +10,20 @@ use Rattle.token.proofs.Runs.{part-is}
 use mathlib.Core.Path.{ap, ◌∙◌}
 use native.Mathlib.Omega.{arith}
 use Rattle.expression.proofs.Words.{worth-some, worth-none}
-use borrow.Author.Rules.{rules}
 use Rattle.expression.proofs.expression.word_at.Goals as goal
-
-pub slice_bounds-word_term-count : goal.slice_bounds-word_term-count
-slice_bounds-word_term-count c = search rules
-
-pub slice_bounds-word_term-start : goal.slice_bounds-word_term-start
-slice_bounds-word_term-start c = search rules
-
-pub slice_bounds-word_term-end : goal.slice_bounds-word_term-end
-slice_bounds-word_term-end c = search rules
-
-pub word_term-t-requires : goal.word_term-t-requires
-word_term-t-requires c = search rules
-
-pub enum_known-t : goal.enum_known-t
-enum_known-t c = search rules
-
-pub enum_told-1 : goal.enum_told-1
-enum_told-1 c = search rules
 
 pub returns-in-Is : goal.returns-in-Is
 returns-in-Is c =
     let a = c.args in
-    (worth-some (value_term (address_in a.source.now a.labels.now) 0) (word_term (slice a.start a.stop a.line.now)) c.in-Is.value (tokens (drop a.stop a.line.now)) ((rw c.in-Is.is at c.word_term-t.ensures.0) ∙ ap (λ w. term_value_of (value_term (address_in a.source.now a.labels.now) 0) (word_term w)) (part-is a.start a.stop a.line.now (omega arith))), (c.requires.1, c.requires.0, rw c.in-Is.is at c.word_term-t.ensures.1))
+    record {
+      read = worth-some (value_term (address_in a.source.now a.labels.now) 0) (word_term (slice a.start a.stop a.line.now)) c.in-Is.value (tokens (drop a.stop a.line.now)) ((rw c.in-Is.is at c.word_term-t.ensures.value) ∙ ap (λ w. term_value_of (value_term (address_in a.source.now a.labels.now) 0) (word_term w)) (part-is a.start a.stop a.line.now (omega arith)));
+      ahead = (c.requires.1, c.requires.0, rw c.in-Is.is at c.word_term-t.ensures.held);
+    }
 
 pub returns-in-NoTerm : goal.returns-in-NoTerm
 returns-in-NoTerm c =
     let a = c.args in
-    (worth-none (value_term (address_in a.source.now a.labels.now) 0) (word_term (slice a.start a.stop a.line.now)) (tokens (drop a.stop a.line.now)) ((rw c.in-NoTerm.is at c.word_term-t.ensures.0) ∙ ap (λ w. term_value_of (value_term (address_in a.source.now a.labels.now) 0) (word_term w)) (part-is a.start a.stop a.line.now (omega arith))), omega arith)
+    record {
+      read = worth-none (value_term (address_in a.source.now a.labels.now) 0) (word_term (slice a.start a.stop a.line.now)) (tokens (drop a.stop a.line.now)) ((rw c.in-NoTerm.is at c.word_term-t.ensures.value) ∙ ap (λ w. term_value_of (value_term (address_in a.source.now a.labels.now) 0) (word_term w)) (part-is a.start a.stop a.line.now (omega arith)));
+      ahead = omega arith;
+    }

@@ -1,32 +1,34 @@
 use Rattle.token.proofs.Tokens.{token-read}
 use native.Mathlib.Omega.{arith}
 use borrow.Author.Tests.{eq-eqb, ne_eqb}
-use borrow.Author.Rules.{rules}
 use Rattle.expression.proofs.sign.sign_at.Goals as goal
 
-pub token_at-t-requires : goal.token_at-t-requires
-token_at-t-requires c = search rules
-
-pub enum_told-1 : goal.enum_told-1
-enum_told-1 c = search rules
-
-pub enum_told-in-Word : goal.enum_told-in-Word
-enum_told-in-Word c = search rules
-
-pub enum_known-t : goal.enum_known-t
-enum_known-t c = search rules
-
 pub returns-then-c-eq43 : goal.returns-then-c-eq43
-returns-then-c-eq43 c = (rw ((token-read _ _ _ c.token_at-t.ensures).0, c.in-Mark.is, eq-eqb _ 43 c.if-c-eq43.true), rw c.in-Mark.is at (token-read _ _ _ c.token_at-t.ensures).1.0)
+returns-then-c-eq43 c = record {
+  sign = rw ((token-read _ _ _ c.token_at-t.ensures).0, c.in-Mark.is, eq-eqb _ 43 c.if-c-eq43.true);
+  onward = rw c.in-Mark.is at (token-read _ _ _ c.token_at-t.ensures).1.0;
+}
 
 pub returns-then-c-eq45 : goal.returns-then-c-eq45
-returns-then-c-eq45 c = (rw ((token-read _ _ _ c.token_at-t.ensures).0, c.in-Mark.is, ne_eqb _ 43 c.if-c-eq43.false, eq-eqb _ 45 c.if-c-eq45.true), rw c.in-Mark.is at (token-read _ _ _ c.token_at-t.ensures).1.0)
+returns-then-c-eq45 c = record {
+  sign = rw ((token-read _ _ _ c.token_at-t.ensures).0, c.in-Mark.is, ne_eqb _ 43 c.if-c-eq43.false, eq-eqb _ 45 c.if-c-eq45.true);
+  onward = rw c.in-Mark.is at (token-read _ _ _ c.token_at-t.ensures).1.0;
+}
 
 pub returns-in-End : goal.returns-in-End
-returns-in-End c = (rw ((token-read _ _ _ c.token_at-t.ensures).0, c.in-End.is), omega arith)
+returns-in-End c = record {
+  sign = rw ((token-read _ _ _ c.token_at-t.ensures).0, c.in-End.is);
+  onward = omega arith;
+}
 
 pub returns-in-Word : goal.returns-in-Word
-returns-in-Word c = (rw ((token-read _ _ _ c.token_at-t.ensures).0, c.in-Word.is), omega arith)
+returns-in-Word c = record {
+  sign = rw ((token-read _ _ _ c.token_at-t.ensures).0, c.in-Word.is);
+  onward = omega arith;
+}
 
 pub returns-else-c-eq45 : goal.returns-else-c-eq45
-returns-else-c-eq45 c = (rw ((token-read _ _ _ c.token_at-t.ensures).0, c.in-Mark.is, ne_eqb _ 43 c.if-c-eq43.false, ne_eqb _ 45 c.if-c-eq45.false), omega arith)
+returns-else-c-eq45 c = record {
+  sign = rw ((token-read _ _ _ c.token_at-t.ensures).0, c.in-Mark.is, ne_eqb _ 43 c.if-c-eq43.false, ne_eqb _ 45 c.if-c-eq45.false);
+  onward = omega arith;
+}

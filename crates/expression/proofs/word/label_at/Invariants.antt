@@ -1,16 +1,8 @@
-use Prim.Native.Nat.{◌+◌, ◌-◌, ◌≤◌}
-use mathlib.Core.Path.{◌≡◌, refl, sym, ap, ◌∙◌}
-use native.Mathlib.Omega.{arith}
-use borrow.Author.Rules.{rules}
+use Prim.Native.Nat.{◌-◌, ◌≤◌}
+use mathlib.Core.Path.{◌≡◌}
 use lib.ListN.{length, drop}
 use lib.Seq.{slice}
-use Rattle.expression.proofs.Labels.{label-on, label-found, labels-end}
 use Rattle.expression.specs.Label.{address_in}
-use Rattle.expression.specs.Value.{label_value}
-use Rattle.expression.proofs.word.label_at.Reads as reads
-use Rattle.expression.proofs.word.label_at.Lts as lts
-use Rattle.expression.proofs.word.bound_up.Reads as bound-up-reads
-use Rattle.expression.proofs.word.same_word.Reads as same-word-reads
 use Rattle.expression.proofs.word.label_at.Given as goal
 
 abbrev pub invariant-loop-k : goal.invariant-loop-k

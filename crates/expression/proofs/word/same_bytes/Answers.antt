@@ -1,23 +1,12 @@
 use Rattle.expression.proofs.Labels.{words-begin, bytes_on, bytes-differ}
-use Prim.Native.Nat.{◌+◌, ◌-◌, ◌≤◌}
-use mathlib.Core.Path.{◌≡◌, ◌∙◌}
+use Prim.Native.Nat.{◌+◌}
+use mathlib.Core.Path.{◌∙◌}
 use native.Mathlib.Omega.{arith}
-use borrow.Author.Rules.{rules}
-use lib.ListN.{drop}
-use lib.Seq.{slice}
 use Rattle.expression.proofs.Labels.{run_in, other_length, both_end}
-use Rattle.expression.specs.Label.{same}
-use Rattle.token.specs.Token.{leading_word}
 use Rattle.expression.proofs.word.same_bytes.Goals as goal
-
-pub past_run-end-requires : goal.past_run-end-requires
-past_run-end-requires c = search rules
 
 pub overflow_sub-end : goal.overflow_sub-end
 overflow_sub-end c = omega (arith, c.past_run-end.ensures)
-
-pub overflow_sub-stop : goal.overflow_sub-stop
-overflow_sub-stop c = omega arith
 
 pub returns-then-end-place : goal.returns-then-end-place
 returns-then-end-place c = other_length c.args.source.now c.args.line.now c.args.place c.past_run-end.result c.args.start c.args.stop c.past_run-end.ensures c.requires.0 c.if-end-place.true
@@ -25,29 +14,14 @@ returns-then-end-place c = other_length c.args.source.now c.args.line.now c.args
 pub loop-i-init : goal.loop-i-init
 loop-i-init c = (words-begin c.args.source.now c.args.line.now c.args.place c.past_run-end.result c.args.start c.args.stop c.past_run-end.ensures, omega arith)
 
-pub overflow_sub-stop-in-loop-i : goal.overflow_sub-stop-in-loop-i
-overflow_sub-stop-in-loop-i c = omega arith
-
 pub overflow_add-place : goal.overflow_add-place
 overflow_add-place c = omega (arith, run_in c.args.source.now c.args.place c.past_run-end.result c.loop-i.i c.past_run-end.ensures (omega arith))
 
 pub bounds-source-place : goal.bounds-source-place
 bounds-source-place c = run_in c.args.source.now c.args.place c.past_run-end.result c.loop-i.i c.past_run-end.ensures (omega arith)
 
-pub overflow_add-start : goal.overflow_add-start
-overflow_add-start c = omega arith
-
-pub bounds-line-start : goal.bounds-line-start
-bounds-line-start c = omega arith
-
 pub returns-then-source-place : goal.returns-then-source-place
 returns-then-source-place c = bytes-differ c.args.source.now c.args.line.now c.args.place c.past_run-end.result c.args.start c.args.stop c.loop-i.i c.past_run-end.ensures c.if-end-place.false (omega arith) c.requires.0 c.if-source-place.true ∙ c.loop-i.invariant.0
-
-pub overflow_add-i : goal.overflow_add-i
-overflow_add-i c = omega arith
-
-pub loop-i-smaller : goal.loop-i-smaller
-loop-i-smaller c = omega arith
 
 pub loop-i-preserved : goal.loop-i-preserved
 loop-i-preserved c = (bytes_on c.args.source.now c.args.line.now c.args.place c.past_run-end.result c.args.start c.args.stop c.loop-i.i c.past_run-end.ensures c.if-end-place.false (omega arith) c.requires.0 c.if-source-place.false ∙ c.loop-i.invariant.0, omega arith)

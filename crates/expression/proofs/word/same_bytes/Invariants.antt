@@ -1,11 +1,7 @@
-use Rattle.expression.proofs.Labels.{words-begin, bytes_on, bytes-differ}
 use Prim.Native.Nat.{◌+◌, ◌-◌, ◌≤◌}
-use mathlib.Core.Path.{◌≡◌, ◌∙◌}
-use native.Mathlib.Omega.{arith}
-use borrow.Author.Rules.{rules}
+use mathlib.Core.Path.{◌≡◌}
 use lib.ListN.{drop}
 use lib.Seq.{slice}
-use Rattle.expression.proofs.Labels.{run_in, other_length, both_end}
 use Rattle.expression.specs.Label.{same}
 use Rattle.token.specs.Token.{leading_word}
 use Rattle.expression.proofs.word.same_bytes.Given as goal

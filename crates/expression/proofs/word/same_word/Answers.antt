@@ -1,6 +1,5 @@
 -- `same_word` meets its contract: words of two first bytes are not the same.
 use native.Mathlib.Omega.{arith}
-use borrow.Author.Rules.{rules}
 use Rattle.expression.proofs.Labels.{first-differs}
 use Rattle.expression.proofs.word.same_word.Goals as goal
 

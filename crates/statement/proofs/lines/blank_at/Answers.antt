@@ -1,6 +1,5 @@
 -- `blank_at` meets its contract.
 use lib.ListN.{get_or-eq_default}
-use borrow.Author.Rules.{rules}
 use Rattle.statement.proofs.lines.blank_at.Goals as goal
 
 pub returns-then-line-at : goal.returns-then-line-at

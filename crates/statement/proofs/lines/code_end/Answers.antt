@@ -1,10 +1,7 @@
 -- `code_end` meets its contract.
 use Rattle.statement.proofs.Ends.{upto-on, upto-stops, upto-ends}
-use Rattle.statement.specs.Line.{uncommented}
-use lib.ListN.{length, drop}
 use native.Mathlib.Omega.{arith}
-use Prim.Native.Nat.{◌+◌, ◌-◌}
-use mathlib.Core.Path.{◌≡◌, ◌∙◌}
+use mathlib.Core.Path.{◌∙◌}
 use Rattle.statement.proofs.lines.code_end.Goals as goal
 
 pub returns-then-line-i-eq59 : goal.returns-then-line-i-eq59

@@ -14,7 +14,6 @@ use lib.ListN.{length, drop, get_or}
 use mathlib.Core.List.{◌∷◌}
 use mathlib.Core.Path.{◌≡◌, sym, ap, ◌∙◌}
 use native.Mathlib.Omega.{arith}
-use borrow.Author.Rules.{rules}
 use Rattle.statement.proofs.lines.code_line.Goals as goal
 
 pub word_line-requires : goal.word_line-requires
@@ -24,10 +23,16 @@ word_line-requires c =
     (o.2, o.1, w.1)
 
 pub returns-in-End : goal.returns-in-End
-returns-in-End c = (rw ((token-read _ _ _ c.token_at-t.ensures).0, c.in-End.is), omega arith)
+returns-in-End c = record {
+  line = rw ((token-read _ _ _ c.token_at-t.ensures).0, c.in-End.is);
+  label = omega arith;
+}
 
 pub returns-in-Mark : goal.returns-in-Mark
-returns-in-Mark c = (rw ((token-read _ _ _ c.token_at-t.ensures).0, c.in-Mark.is), omega arith)
+returns-in-Mark c = record {
+  line = rw ((token-read _ _ _ c.token_at-t.ensures).0, c.in-Mark.is);
+  label = omega arith;
+}
 
 pub returns-in-Word : goal.returns-in-Word
 returns-in-Word c =
@@ -39,4 +44,7 @@ returns-in-Word c =
     let ts = tokens (drop e l) in
     let w : WholeWord l 0 (Word s e) = rw c.in-Word.is at (token-read _ _ _ c.token_at-t.ensures).1.1 in
     let tok : tokens l ≡ word (slice s e l) ∷ ts = rw c.in-Word.is at (token-read _ _ _ c.token_at-t.ensures).0 in
-    (c.word_line.ensures.0 ∙ ap (λ y. evaluated_line a (by_colon y (is_blank (get_or l e 0)) ts (past 58 ts))) (sym (run-part l s e w.1)) ∙ ap (λ k. evaluated_line a (by_colon (slice s e l) (is_blank (get_or l k 0)) ts (past 58 ts))) (sym (word_end_lem l s e w.0 w.1)) ∙ ap (λ y. evaluated_line a (token_line (is_spaced l) y)) (sym tok), c.word_line.ensures.1)
+    record {
+      line = c.word_line.ensures.line ∙ ap (λ y. evaluated_line a (by_colon y (is_blank (get_or l e 0)) ts (past 58 ts))) (sym (run-part l s e w.1)) ∙ ap (λ k. evaluated_line a (by_colon (slice s e l) (is_blank (get_or l k 0)) ts (past 58 ts))) (sym (word_end_lem l s e w.0 w.1)) ∙ ap (λ y. evaluated_line a (token_line (is_spaced l) y)) (sym tok);
+      label = c.word_line.ensures.label;
+    }

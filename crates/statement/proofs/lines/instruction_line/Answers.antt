@@ -13,7 +13,6 @@ use mathlib.Core.Path.{◌≡◌}
 use mathlib.Core.List.{[]}
 use mathlib.Core.Bool.{◌||◌, not, true, false}
 use native.Mathlib.Omega.{arith}
-use borrow.Author.Rules.{rules}
 use Rattle.statement.proofs.lines.instruction_line.Goals as goal
 
 pub returns-then-enough : goal.returns-then-enough
@@ -21,19 +20,25 @@ returns-then-enough c =
     let x = c.args in
     let a = address_in x.source.now x.labels.now in
     let sp = is_blank (get_or x.line.now x.stop 0) in
-    let g = c.read-1.given in
-    let ts = tokens (drop g.0.1.0 x.line.now) in
-    let h : parse g.0.0 ts ≡ operands_evaluated a (operands_at (slots x.i) (tokens (drop x.stop x.line.now))) = rw (g.1, c.slots_of-slots.ensures) at c.operands_at-read.ensures in
+    let g = c.in-Read in
+    let ts = tokens (drop g.next x.line.now) in
+    let h : parse g.operand_values ts ≡ operands_evaluated a (operands_at (slots x.i) (tokens (drop x.stop x.line.now))) = rw (g.is, c.slots_of-slots.ensures) at c.operands_at-read.ensures in
     let e : ts ≡ [] = rw c.in-End.is at (token-read _ _ _ c.token_at-t.ensures).0 in
     let s : sp || not (has_operands (slots x.i)) ≡ true = rw (c.blank_at.ensures, c.has_operands.ensures, c.slots_of-slots.ensures) at c.if-enough.true in
-    (stated a x.i sp (operands_at (slots x.i) (tokens (drop x.stop x.line.now))) g.0.0 ts h e s, omega arith)
+    record {
+      line = stated a x.i sp (operands_at (slots x.i) (tokens (drop x.stop x.line.now))) g.operand_values ts h e s;
+      label = omega arith;
+    }
 
 pub returns-in-Malformed : goal.returns-in-Malformed
 returns-in-Malformed c =
     let x = c.args in
     let a = address_in x.source.now x.labels.now in
     let sp = is_blank (get_or x.line.now x.stop 0) in
-    (malformed a x.i sp (operands_at (slots x.i) (tokens (drop x.stop x.line.now))) (rw (c.in-Malformed.is, c.slots_of-slots.ensures) at c.operands_at-read.ensures), omega arith)
+    record {
+      line = malformed a x.i sp (operands_at (slots x.i) (tokens (drop x.stop x.line.now))) (rw (c.in-Malformed.is, c.slots_of-slots.ensures) at c.operands_at-read.ensures);
+      label = omega arith;
+    }
 
 pub returns-else-enough : goal.returns-else-enough
 returns-else-enough c =
@@ -41,24 +46,33 @@ returns-else-enough c =
     let a = address_in x.source.now x.labels.now in
     let sp = is_blank (get_or x.line.now x.stop 0) in
     let s : sp || not (has_operands (slots x.i)) ≡ false = rw (c.blank_at.ensures, c.has_operands.ensures, c.slots_of-slots.ensures) at c.if-enough.false in
-    (unspaced a x.i sp (operands_at (slots x.i) (tokens (drop x.stop x.line.now))) s, omega arith)
+    record {
+      line = unspaced a x.i sp (operands_at (slots x.i) (tokens (drop x.stop x.line.now))) s;
+      label = omega arith;
+    }
 
 pub returns-in-Word : goal.returns-in-Word
 returns-in-Word c =
     let x = c.args in
     let a = address_in x.source.now x.labels.now in
     let sp = is_blank (get_or x.line.now x.stop 0) in
-    let g = c.read-1.given in
-    let ts = tokens (drop g.0.1.0 x.line.now) in
-    let h : parse g.0.0 ts ≡ operands_evaluated a (operands_at (slots x.i) (tokens (drop x.stop x.line.now))) = rw (g.1, c.slots_of-slots.ensures) at c.operands_at-read.ensures in
-    (overlong a x.i sp (operands_at (slots x.i) (tokens (drop x.stop x.line.now))) g.0.0 _ ts _ h (rw c.in-Word.is at (token-read _ _ _ c.token_at-t.ensures).0), omega arith)
+    let g = c.in-Read in
+    let ts = tokens (drop g.next x.line.now) in
+    let h : parse g.operand_values ts ≡ operands_evaluated a (operands_at (slots x.i) (tokens (drop x.stop x.line.now))) = rw (g.is, c.slots_of-slots.ensures) at c.operands_at-read.ensures in
+    record {
+      line = overlong a x.i sp (operands_at (slots x.i) (tokens (drop x.stop x.line.now))) g.operand_values _ ts _ h (rw c.in-Word.is at (token-read _ _ _ c.token_at-t.ensures).0);
+      label = omega arith;
+    }
 
 pub returns-in-Mark : goal.returns-in-Mark
 returns-in-Mark c =
     let x = c.args in
     let a = address_in x.source.now x.labels.now in
     let sp = is_blank (get_or x.line.now x.stop 0) in
-    let g = c.read-1.given in
-    let ts = tokens (drop g.0.1.0 x.line.now) in
-    let h : parse g.0.0 ts ≡ operands_evaluated a (operands_at (slots x.i) (tokens (drop x.stop x.line.now))) = rw (g.1, c.slots_of-slots.ensures) at c.operands_at-read.ensures in
-    (overlong a x.i sp (operands_at (slots x.i) (tokens (drop x.stop x.line.now))) g.0.0 _ ts _ h (rw c.in-Mark.is at (token-read _ _ _ c.token_at-t.ensures).0), omega arith)
+    let g = c.in-Read in
+    let ts = tokens (drop g.next x.line.now) in
+    let h : parse g.operand_values ts ≡ operands_evaluated a (operands_at (slots x.i) (tokens (drop x.stop x.line.now))) = rw (g.is, c.slots_of-slots.ensures) at c.operands_at-read.ensures in
+    record {
+      line = overlong a x.i sp (operands_at (slots x.i) (tokens (drop x.stop x.line.now))) g.operand_values _ ts _ h (rw c.in-Mark.is at (token-read _ _ _ c.token_at-t.ensures).0);
+      label = omega arith;
+    }

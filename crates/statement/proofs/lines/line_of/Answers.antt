@@ -9,12 +9,14 @@ use lib.ListN.{length, take}
 use borrow.Author.Tests.{lt-ltb, le-ltb}
 use mathlib.Core.Path.{◌≡◌, sym, ap, ◌∙◌}
 use native.Mathlib.Omega.{arith}
-use borrow.Author.Rules.{rules}
 use Rattle.statement.proofs.lines.line_of.Goals as goal
 
 pub returns-then-line-gt120 : goal.returns-then-line-gt120
 unfolding line_of
-returns-then-line-gt120 c = (rw (lt-ltb 120 _ c.if-line-gt120.true), omega arith)
+returns-then-line-gt120 c = record {
+  line = rw (lt-ltb 120 _ c.if-line-gt120.true);
+  label = omega arith;
+}
 
 pub slice_bounds-code_line-end : goal.slice_bounds-code_line-end
 slice_bounds-code_line-end c = sym (length-take-le c.code_end-end.result c.args.line.now (omega (arith, upto-short 59 c.args.line.now, c.code_end-end.ensures)))
@@ -26,6 +28,9 @@ returns c =
     let l = x.line.now in
     let a = address_in x.source.now x.labels.now in
     let t : take c.code_end-end.result l ≡ uncommented l = ap (λ n. take n l) c.code_end-end.ensures ∙ take-upto 59 l in
-    let parsed_as : line_value (uncommented l) c.code_line.result ≡ evaluated_line a (code_line (uncommented l)) = rw t at c.code_line.ensures.0 in
-    let at : LabelInside (length (uncommented l)) c.code_line.result = rw t at c.code_line.ensures.1 in
-    (rw (le-ltb 120 _ c.if-line-gt120.false) (sym (seen-in-line l c.code_line.result at) ∙ parsed_as), label-in l c.code_line.result at)
+    let parsed_as : line_value (uncommented l) c.code_line.result ≡ evaluated_line a (code_line (uncommented l)) = rw t at c.code_line.ensures.line in
+    let at : LabelInside (length (uncommented l)) c.code_line.result = rw t at c.code_line.ensures.label in
+    record {
+      line = rw (le-ltb 120 _ c.if-line-gt120.false) (sym (seen-in-line l c.code_line.result at) ∙ parsed_as);
+      label = label-in l c.code_line.result at;
+    }

@@ -14,14 +14,23 @@ label_line-requires c =
     (c.requires.0, c.requires.1, n.0, n.1, c.requires.2)
 
 pub returns-in-At : goal.returns-in-At
-returns-in-At c = (rw (← (place_read _ _ _ _ c.past_mark-place.ensures).0, c.in-At.is) (c.label_line.ensures.0 (address_in c.args.source.now c.args.labels.now)), c.label_line.ensures.1)
+returns-in-At c = record {
+  line = rw (← (place_read _ _ _ _ c.past_mark-place.ensures).0, c.in-At.is) (c.label_line.ensures.line (address_in c.args.source.now c.args.labels.now));
+  label = c.label_line.ensures.label;
+}
 
 pub returns-in-Is : goal.returns-in-Is
 returns-in-Is c =
     let x = c.args in
-    (rw (← (place_read _ _ _ _ c.past_mark-place.ensures).0, c.in-NoPlace.is, ← word-part x.line.now x.start x.stop c.requires.1 c.requires.2, ← c.named-found.ensures, c.in-Is.is) c.instruction_line.ensures.0, c.instruction_line.ensures.1)
+    record {
+      line = rw (← (place_read _ _ _ _ c.past_mark-place.ensures).0, c.in-NoPlace.is, ← word-part x.line.now x.start x.stop c.requires.1 c.requires.2, ← c.named-found.ensures, c.in-Is.is) c.instruction_line.ensures.line;
+      label = c.instruction_line.ensures.label;
+    }
 
 pub returns-in-NoTemplate : goal.returns-in-NoTemplate
 returns-in-NoTemplate c =
     let x = c.args in
-    (rw (← (place_read _ _ _ _ c.past_mark-place.ensures).0, c.in-NoPlace.is, ← word-part x.line.now x.start x.stop c.requires.1 c.requires.2, ← c.named-found.ensures, c.in-NoTemplate.is), search rules)
+    record {
+      line = rw (← (place_read _ _ _ _ c.past_mark-place.ensures).0, c.in-NoPlace.is, ← word-part x.line.now x.start x.stop c.requires.1 c.requires.2, ← c.named-found.ensures, c.in-NoTemplate.is);
+      label = search rules;
+    }

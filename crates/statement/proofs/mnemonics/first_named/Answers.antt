@@ -1,14 +1,13 @@
 -- `first_named` meets its contract: no row passed over has the word as its name.
 use Rattle.statement.proofs.Named.{row_count, row_room, walk-found, walk-on, walk_ends}
-use Rattle.statement.specs.Rows.{tried, in_rows}
+use Rattle.statement.specs.Rows.{tried}
 use Rattle.names.specs.Rows.{rows, no_row}
 use Rattle.names.specs.declared.name.NameRow.{NameRow}
-use Prim.Native.Nat.{◌-◌, ◌<◌, ◌≤◌}
+use Prim.Native.Nat.{◌<◌, ◌≤◌}
 use mathlib.Core.Option.{none}
 use mathlib.Core.List.{List}
-use mathlib.Core.Path.{◌≡◌, refl, ap, ◌∙◌}
-use lib.ListN.{length, drop, get_or}
-use borrow.Author.Rules.{rules}
+use mathlib.Core.Path.{refl, ap, ◌∙◌}
+use lib.ListN.{length, get_or}
 use native.Mathlib.Omega.{arith}
 use Rattle.statement.proofs.mnemonics.first_named.Goals as goal
 

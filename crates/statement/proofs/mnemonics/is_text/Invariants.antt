@@ -1,12 +1,9 @@
 -- `is_text` meets its contract: byte by byte.
-use Rattle.expression.proofs.Labels.{lengths_differ, byte-same, byte-other, both_end}
-use Rattle.token.proofs.Numbers.{whole}
 use Rattle.expression.specs.Label.{same}
-use lib.Seq.{slice, length-take-le}
+use lib.Seq.{slice}
 use lib.ListN.{length, take}
 use Prim.Native.Nat.{◌-◌}
-use mathlib.Core.Path.{◌≡◌, ap, ◌∙◌}
-use native.Mathlib.Omega.{arith}
+use mathlib.Core.Path.{◌≡◌}
 use Rattle.statement.proofs.mnemonics.is_text.Given as goal
 
 abbrev pub invariant-loop-k : goal.invariant-loop-k

@@ -1,7 +1,6 @@
 -- `named` meets its contract: the rows' own names first, and then those of I.
 use Rattle.statement.proofs.Named.{listed, immediates}
 use mathlib.Core.Path.{◌∙◌}
-use borrow.Author.Rules.{rules}
 use Rattle.statement.proofs.mnemonics.named.Goals as goal
 
 pub returns-in-Is : goal.returns-in-Is

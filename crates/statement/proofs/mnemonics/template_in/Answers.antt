@@ -1,15 +1,14 @@
 -- `template_in` meets its contract.
-use borrow.Author.Tests.{eq-eqb, ne_eqb, not-true, not-false}
-use borrow.Author.Rules.{rules}
+use borrow.Author.Tests.{eq-eqb, ne_eqb}
 use Rattle.statement.proofs.mnemonics.template_in.Goals as goal
 
 pub returns-then-not-immediate : goal.returns-then-not-immediate
-returns-then-not-immediate c = rw (not-true c.args.immediate c.if-not-immediate.true) c.template_of.ensures
+returns-then-not-immediate c = rw (c.if-not-immediate.true) c.template_of.ensures
 
 pub returns-then-format-eq0 : goal.returns-then-format-eq0
 returns-then-format-eq0 c =
-    rw (not-false c.args.immediate c.if-not-immediate.false, eq-eqb _ 0 c.if-format-eq0.true)
+    rw (c.if-not-immediate.false, eq-eqb _ 0 c.if-format-eq0.true)
     c.template_of-then-format-eq0.ensures
 
 pub returns : goal.returns
-returns c = rw (not-false c.args.immediate c.if-not-immediate.false, ne_eqb _ 0 c.if-format-eq0.false)
+returns c = rw (c.if-not-immediate.false, ne_eqb _ 0 c.if-format-eq0.false)

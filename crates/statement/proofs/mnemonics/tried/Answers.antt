@@ -1,8 +1,6 @@
 -- `tried` meets its contract: the instruction of the row, if the word is its name.
 use Rattle.statement.proofs.Named.{has-name, has-not}
 use mathlib.Core.Path.{refl, ◌∙◌}
-use borrow.Author.Rules.{rules}
-use native.Mathlib.Omega.{arith}
 use Rattle.statement.proofs.mnemonics.tried.Goals as goal
 
 pub returns-then-is_named : goal.returns-then-is_named

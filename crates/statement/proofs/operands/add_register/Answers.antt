@@ -1,5 +1,4 @@
 -- `add_register` meets its contract.
-use borrow.Author.Rules.{rules}
 use Rattle.statement.proofs.operands.add_register.Goals as goal
 
 pub returns-in-At : goal.returns-in-At

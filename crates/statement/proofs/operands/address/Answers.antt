@@ -1,5 +1,4 @@
 -- `address` meets its contract.
-use borrow.Author.Rules.{rules}
 use Rattle.statement.proofs.operands.address.Goals as goal
 
 pub returns-in-At : goal.returns-in-At

@@ -1,5 +1,4 @@
 -- `base` meets its contract.
-use borrow.Author.Rules.{rules}
 use Rattle.statement.proofs.operands.base.Goals as goal
 
 pub returns-in-Read : goal.returns-in-Read

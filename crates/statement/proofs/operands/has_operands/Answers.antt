@@ -1,5 +1,4 @@
 -- `has_operands` meets its contract.
-use borrow.Author.Rules.{rules}
 use Rattle.statement.proofs.operands.has_operands.Goals as goal
 
 pub returns : goal.returns

@@ -1,5 +1,4 @@
 -- `immediate` meets its contract.
-use borrow.Author.Rules.{rules}
 use Rattle.statement.proofs.operands.immediate.Goals as goal
 
 pub returns-in-Read : goal.returns-in-Read

@@ -1,5 +1,4 @@
 -- `operand` meets its contract.
-use borrow.Author.Rules.{rules}
 use Rattle.statement.proofs.operands.operand.Goals as goal
 
 pub returns-in-ARegister : goal.returns-in-ARegister

@@ -5,7 +5,6 @@ use Rattle.token.specs.Token.{tokens}
 use Rattle.expression.specs.Label.{address_in}
 use lib.ListN.{drop}
 use mathlib.Core.Path.{ap, ◌∙◌}
-use borrow.Author.Rules.{rules}
 use Rattle.statement.proofs.operands.operands_at.Goals as goal
 
 pub returns : goal.returns

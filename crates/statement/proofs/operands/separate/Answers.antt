@@ -1,7 +1,6 @@
 -- `separate` meets its contract.
 use Rattle.token.proofs.Tokens.{place_read}
 use borrow.Author.Tests.{eq-eqb, ne_eqb}
-use borrow.Author.Rules.{rules}
 use Rattle.statement.proofs.operands.separate.Goals as goal
 
 pub returns : goal.returns

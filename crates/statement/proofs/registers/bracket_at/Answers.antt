@@ -1,6 +1,5 @@
 -- `bracket_at` meets its contract.
 use Rattle.token.proofs.Tokens.{place_read}
-use borrow.Author.Rules.{rules}
 use Rattle.statement.proofs.registers.bracket_at.Goals as goal
 
 pub returns-in-At : goal.returns-in-At

@@ -1,6 +1,5 @@
 -- `closed` meets its contract.
 use Rattle.token.proofs.Tokens.{place_read}
-use borrow.Author.Rules.{rules}
 use Rattle.statement.proofs.registers.closed.Goals as goal
 
 pub returns-in-At-place : goal.returns-in-At-place

@@ -4,7 +4,6 @@ use Rattle.token.specs.Word.{capped}
 use Rattle.token.specs.Number.{numeral}
 use mathlib.Core.Option.{some}
 use mathlib.Core.Path.{◌≡◌, sym, ◌∙◌}
-use borrow.Author.Rules.{rules}
 use Rattle.statement.proofs.registers.numbered.Goals as goal
 
 pub returns-then-one-two : goal.returns-then-one-two

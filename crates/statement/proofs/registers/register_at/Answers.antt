@@ -5,7 +5,6 @@ use lib.ListN.{length}
 use Rattle.token.proofs.Runs.{part-is}
 use Rattle.token.specs.Scan.{TokenAdvances}
 use native.Mathlib.Omega.{arith}
-use borrow.Author.Rules.{rules}
 use Rattle.statement.proofs.registers.register_at.Goals as goal
 
 pub slice_bounds-register_of-count : goal.slice_bounds-register_of-count

@@ -1,7 +1,6 @@
 -- `register_of` meets its contract.
 use Rattle.statement.proofs.Letters.{no_word, scalar, vector, neither}
 use native.Mathlib.Omega.{arith}
-use borrow.Author.Rules.{rules}
 use Rattle.statement.proofs.registers.register_of.Goals as goal
 
 pub returns-then-word-eq0 : goal.returns-then-word-eq0

@@ -1,6 +1,5 @@
 -- `c_word` meets its contract.
 use Rattle.statement.specs.Meaning.{meaning_with}
-use borrow.Author.Rules.{rules}
 use Rattle.statement.proofs.words.c_word.Goals as goal
 
 pub returns : goal.returns

@@ -6,7 +6,6 @@ use Rattle.isa.specs.Rule.{allows_j}
 use Rattle.statement.specs.Types.{AnImmediate}
 use Rattle.statement.specs.Meaning.{meaning_with}
 use Rattle.statement.specs.Mnemonic.{is_operand}
-use borrow.Author.Rules.{rules}
 use Rattle.statement.proofs.words.j_word.Goals as goal
 
 free-operand : (b : Bool) → is_operand (where-free b AnImmediate) ≡ b

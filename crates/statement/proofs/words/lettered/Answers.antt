@@ -4,7 +4,6 @@ use Rattle.isa.specs.declared.instruction.Writing.TheVariants.{Word, NoWord}
 use Rattle.isa.specs.declared.instruction.Writing.{Writing}
 use Rattle.isa.specs.Answer.{writing}
 use mathlib.Core.Path.{◌≡◌, refl, ap, ◌∙◌}
-use borrow.Author.Rules.{rules}
 use Rattle.statement.proofs.words.lettered.Goals as goal
 
 word-by : (w : Writing) → word_in w ≡ word_by (writing w)

@@ -1,8 +1,7 @@
 -- `movei_word` meets its contract.
 use Rattle.statement.specs.Meaning.{meaning_with}
-use borrow.Author.Rules.{rules}
 use Rattle.statement.proofs.words.movei_word.Goals as goal
 
 pub returns : goal.returns
 unfolding meaning_with
-returns c = rw (← c.bit.ensures.0) c.lettered.ensures
+returns c = rw (← c.bit.ensures.value) c.lettered.ensures

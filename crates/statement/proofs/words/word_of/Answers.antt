@@ -1,6 +1,5 @@
 -- `word_of` meets its contract.
 use Rattle.statement.specs.Meaning.{meaning_with}
-use borrow.Author.Rules.{rules}
 use Rattle.statement.proofs.words.word_of.Goals as goal
 
 pub returns-in-R : goal.returns-in-R

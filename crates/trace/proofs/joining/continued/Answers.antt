@@ -16,7 +16,7 @@ returns c =
     let a = c.args in
     rw (
       less difference.result (a.first.looks + a.second.looks) again.result (omega arith) (omega arith)
-          (difference.ensures ∙ c.wrapping_add_u64-looks.ensures),
+          (difference.ensures.value ∙ c.wrapping_add_u64-looks.ensures.value),
       again.ensures,
-      c.wrapping_add_u32.ensures,
+      c.wrapping_add_u32.ensures.value,
     )
