@@ -1,5 +1,5 @@
 -- The fixed places of an image: where each kind begins, and that the content of each record stands at its place.
-use Prim.Native.Nat.{ℕ, ◌%◌}
+use Prim.Native.Nat.{◌%◌}
 use mathlib.Core.Bool.{Bool, true, false, ◌&&◌, cond, not}
 use mathlib.Core.Path.{◌≡◌, refl, sym}
 use borrow.Author.Tests.{eqb-true, eq-eqb, ne_eqb}

@@ -1,9 +1,9 @@
 -- What a call has of its lengths and its record where the table gives it no number, and what it then gives.
 use Prim.Native.Nat.{ℕ, ◌*◌, ◌/◌, ◌%◌, ◌≤◌}
-use mathlib.Core.Bool.{Bool, true, false, cond, ◌||◌, not}
+use mathlib.Core.Bool.{Bool, true, false, ◌||◌, not}
 use mathlib.Core.List.{List}
 use mathlib.Core.Option.{Option, none, some}
-use mathlib.Core.Path.{◌≡◌, refl, sym, ap, ◌∙◌}
+use mathlib.Core.Path.{◌≡◌, sym, ap, ◌∙◌}
 use native.Mathlib.Omega.{arith}
 use borrow.Author.Tests.{eqb-true, eq-eqb, not-false}
 use lib.Dec.{ltb, eqb}
@@ -17,9 +17,9 @@ use Rattle.machine.proofs.Tests.{neither}
 use Rattle.machine.specs.WellFormed.{well_formed}
 use Rattle.image_layout.proofs.Rows.{whole_length, form-told}
 use Rattle.image_layout.specs.Layout.{fixed_of, form_of, of_blocks, kinds, start_of, heads_in}
-use Rattle.image.specs.Calls.{WriteResult, writing, write_refusal, write_as, ReadResult, reading, read_refusal, read_by, read}
+use Rattle.image.specs.Calls.{writing, write_refusal, write_as, reading, read_refusal, read_by, read}
 use Rattle.image.specs.Image.{shape_of, Lengths, image, record_in, state_in}
-use Rattle.image.specs.Refusal.{loses_counts, write_checks, record_number, write_number, content_number, record_checks, records_number, read_number_in, read_number}
+use Rattle.image.specs.Refusal.{loses_counts, write_checks, record_number, write_number, content_number, record_checks, records_number, read_number_in}
 use Rattle.image.specs.Types.{Form, Shape, Machine}
 
 -- The lengths.

@@ -8,7 +8,7 @@ use lib.ListN.{length, get_or, take, drop}
 use lib.Seq.{take_at, drop_at, drop-drop, get_or-take}
 use Rattle.answer.specs.Answer.{Answer, given, refused}
 use Rattle.machine.specs.State.{scalar_index, lane_index}
-use Rattle.machine.specs.State.{State, state}
+use Rattle.machine.specs.State.{State}
 use Rattle.image_layout.proofs.Parts.{cut-take, concat_below-same, read-concat_below, piece-even}
 use Rattle.image_layout.proofs.Table.{laid-back}
 use Rattle.image_layout.proofs.Tests.{all-intro, all-elim}

@@ -1,6 +1,6 @@
 -- Writing then reading, reading then writing, and which images are accepted.
 use Prim.Native.Nat.{ℕ, suc, ◌/◌, ◌<◌}
-use mathlib.Core.Bool.{Bool, true, false, not, and-eq-true_iff}
+use mathlib.Core.Bool.{Bool, true, false, and-eq-true_iff}
 use mathlib.Core.List.{List, [], ◌∷◌}
 use mathlib.Core.Option.{Option, none, some}
 use mathlib.Core.Path.{◌≡◌, refl, sym, ap, ◌∙◌}

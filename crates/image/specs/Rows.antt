@@ -2,7 +2,7 @@
 use Prim.Native.Char.{code}
 use Rattle.std.specs.Prelude.{ℕ, List, [], ◌∷◌, ◌++◌, ◌≡◌, replicate, set, take, true, false}
 use Prim.Native.String.{String, char_at}
-use Rattle.std.proofs.Math.Option.{Option, none, some}
+use Rattle.std.proofs.Math.Option.{none, some}
 use Rattle.machine.specs.State.{state}
 use Rattle.thread_entry.specs.Entry.{entry_of}
 use Rattle.machine.specs.Machine.{counted, zeroed, start}

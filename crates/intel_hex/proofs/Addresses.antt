@@ -1,6 +1,6 @@
 -- The byte at each address is that of the record that covers it.
 use Prim.Native.Nat.{ℕ, ◌+◌, ◌-◌, ◌*◌, ◌≤◌, ◌<◌}
-use mathlib.Core.Bool.{Bool, true, false, ◌&&◌, not, cond}
+use mathlib.Core.Bool.{Bool, true, false, cond}
 use mathlib.Core.List.{List, [], ◌∷◌, ◌++◌, map}
 use mathlib.Core.Path.{◌≡◌, refl, sym, ap, ◌∙◌}
 use native.Mathlib.Omega.{arith}
@@ -8,7 +8,7 @@ use borrow.Author.Tests.{lt-ltb, le-ltb, ltb-true, ltb-false}
 use lib.Dec.{ltb}
 use lib.ListN.{length, get_or, replicate, length-append, length-replicate, get_or-replicate, get_or-append, get_or-eq_default}
 use lib.Seq.{get_or-append-add}
-use Rattle.intel_hex.specs.Claims.{piece, pieces, byte_at, ReadsBytes}
+use Rattle.intel_hex.specs.Claims.{pieces, byte_at, ReadsBytes}
 use Rattle.intel_hex.specs.File.{reading, stopped, placed, misplaced, taken, steps, finish, image, image_of}
 use Rattle.intel_hex.specs.Record.{Line, lines, Record, no_record, data_record, upper_record, end_record, record_in}
 use Rattle.intel_hex.proofs.Passing.{refused}

@@ -16,7 +16,6 @@ use Rattle.intel_hex.specs.Claims.{ImportsExport, ReadsBack, data_records, Expor
 use Rattle.intel_hex.specs.Digits.{value, pairs, hexes, total}
 use Rattle.intel_hex.specs.Record.{line, lines_from, lines, Record, data_record, end_record, fields_of, bytes_record, colon_record, record_of, record_in, without_cr}
 use Rattle.intel_hex.specs.File.{Progress, reading, placed, taken, steps, start, finish, Image, image, image_of}
-use Rattle.program.specs.Program.{program_in}
 use Rattle.intel_hex.specs.Program.{program_bytes}
 use Rattle.intel_hex.specs.Export.{heads, checksum, record_text, body, export_text, Export, exports, export_into}
 use Rattle.intel_hex.specs.Import.{imports, import_image, import_into}

@@ -10,7 +10,7 @@ use lib.ListN.{length, take, drop, replicate, length-drop, drop_of_length-le}
 use Rattle.intel_hex.specs.File.{reading, stopped, placed, misplaced, taken, steps, start, finish, Image, image, no_image, image_of}
 use Rattle.program.specs.Program.{bad_bytes, program_in}
 use Rattle.program.proofs.Sizes.{whole as sized}
-use Rattle.intel_hex.specs.Record.{Line, line, lines_from, lines, Record, no_record, data_record, upper_record, end_record, record_in, record_of}
+use Rattle.intel_hex.specs.Record.{Line, lines_from, lines, Record, no_record, data_record, upper_record, end_record, record_in, record_of}
 use Rattle.intel_hex.specs.Scan.{heading, line_length, judged}
 use Rattle.intel_hex.specs.Import.{imported, import_image}
 use Rattle.intel_hex.specs.Storing.{store_all, pair_bytes, words_after, place_after, DataFits, RecordFits, ImageFits}

@@ -9,7 +9,7 @@ use lib.Dec.{eqb, ltb}
 use lib.ListN.{length, take, drop, replicate, length-append, length-replicate, length-drop, drop_of_length-le}
 use lib.Seq.{drop-drop, length-take-le}
 use Rattle.intel_hex.specs.File.{Progress, reading, stopped, placed, misplaced, taken, steps, start, finish, image_of}
-use Rattle.intel_hex.specs.Record.{Line, line, rest, lines_from, lines, Record, no_record, data_record, upper_record, end_record, record_of, without_cr}
+use Rattle.intel_hex.specs.Record.{Line, line, lines_from, lines, Record, no_record, data_record, upper_record, end_record, record_of, without_cr}
 use Rattle.intel_hex.specs.Scan.{heading, line_length, cursor, advanced, judged}
 use Rattle.intel_hex.specs.Types.{Cursor, Next, Stopped, Judged, Bytes, Refused}
 use Rattle.intel_hex.proofs.Lines.{cut, uncut}

@@ -1,5 +1,4 @@
 -- `find` meets its contract: by what the word is read as, and whether the numbers are its own.
-use borrow.Author.Rules.{rules}
 use Rattle.fields.proofs.Search.{search_is}
 use Rattle.fields.proofs.layout.find.Goals as goal
 

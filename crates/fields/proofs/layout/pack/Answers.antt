@@ -1,6 +1,5 @@
 -- `pack` meets its contract: by the format.
 use native.Mathlib.Omega.{arith}
-use borrow.Author.Rules.{rules}
 use borrow.Author.Tests.{ne_eqb}
 use Rattle.fields.specs.Numbers.{word_of}
 use Rattle.fields.proofs.layout.pack.Goals as goal

@@ -1,7 +1,6 @@
 -- `unpack` meets its contract: by the format that the upper bits say.
 use mathlib.Core.Path.{◌∙◌, sym}
 use lib.Pow.{shr_mod}
-use borrow.Author.Rules.{rules}
 use Rattle.isa.proofs.Formats.{is-R, is-I, is-Movei, is-J, is-C, is-M, is_none}
 use Rattle.fields.specs.Numbers.{unpacks, numbers_of}
 use Rattle.fields.proofs.layout.unpack.Goals as goal

@@ -1,11 +1,7 @@
 -- `bytes::copy_sixteens` meets its contract.
 use Prim.Native.Nat.{◌+◌, ◌*◌, ◌-◌, ◌≤◌}
-use mathlib.Core.Path.{◌≡◌}
 use lib.ListN.{take, drop}
 use Rattle.image_layout.specs.Join.{Grown}
-use Rattle.image_layout.proofs.Join.{grown-none, grown-same, grown-new, grown-sixteens}
-use native.Mathlib.Omega.{arith}
-use borrow.Author.Rules.{rules}
 use Rattle.image.proofs.bytes.copy_sixteens.Given as goal
 
 abbrev pub invariant-loop-k : goal.invariant-loop-k

@@ -1,22 +1,15 @@
 -- `bytes::number_at` meets its contract.
-use Prim.Native.Nat.{◌+◌, ◌*◌, ◌-◌, ◌^◌, ◌≤◌, ◌<◌}
+use Prim.Native.Nat.{◌+◌, ◌*◌, ◌-◌}
 use mathlib.Core.Path.{◌≡◌, refl, ap, ◌∙◌}
 use lib.ListN.{get_or}
 use Rattle.little_endian.specs.Numbers.{number_at}
 use Rattle.image.proofs.Words.{number_more, number-few, seven-few}
 use native.Mathlib.Omega.{arith}
-use borrow.Author.Rules.{rules}
 use Rattle.image.proofs.bytes.number_at.Goals as goal
 
 pub loop-j-init : goal.loop-j-init
 unfolding number_at
 loop-j-init c = (omega arith, refl, omega arith)
-
--- what was read before the highest eighth byte has room for one more
-few : (c : tie.After-byte invariant-loop decreases-loop) → c.before.before.loop.number < 2 ^ 56
-few c =
-    let l = c.before.before.loop in
-    seven-few l.number l.j l.invariant.2 (omega (arith, c.before.loop-test.true, c.before.before.before.before.requires.0))
 
 pub loop-j-preserved : goal.loop-j-preserved
 loop-j-preserved c =
@@ -50,11 +43,18 @@ overflow_add-at c = omega (arith, c.loop-j-test.true, c.requires.1)
 pub byte-lowest-requires : goal.byte-lowest-requires
 byte-lowest-requires c = omega (arith, c.loop-j-test.true, c.requires.1)
 
+-- what was read before the highest eighth byte has room for one more
 pub overflow_mul-number : goal.overflow_mul-number
-overflow_mul-number c = omega (arith, few c)
+overflow_mul-number c =
+    let l = c.loop-j in
+    let few = seven-few l.number l.j l.invariant.2 (omega (arith, c.loop-j-test.true, c.requires.0)) in
+    omega arith
 
 pub overflow_add-number : goal.overflow_add-number
-overflow_add-number c = omega (arith, few c, c.byte-lowest.ensures.1)
+overflow_add-number c =
+    let l = c.loop-j in
+    let few = seven-few l.number l.j l.invariant.2 (omega (arith, c.loop-j-test.true, c.requires.0)) in
+    omega (arith, c.byte-lowest.ensures.1)
 
 pub loop-j-smaller : goal.loop-j-smaller
 loop-j-smaller c = omega (arith, c.loop-j-test.true)

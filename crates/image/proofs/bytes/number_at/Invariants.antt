@@ -1,11 +1,7 @@
 -- `bytes::number_at` meets its contract.
 use Prim.Native.Nat.{◌+◌, ◌*◌, ◌-◌, ◌^◌, ◌≤◌, ◌<◌}
-use mathlib.Core.Path.{◌≡◌, refl, ap, ◌∙◌}
-use lib.ListN.{get_or}
+use mathlib.Core.Path.{◌≡◌}
 use Rattle.little_endian.specs.Numbers.{number_at}
-use Rattle.image.proofs.Words.{number_more, number-few, seven-few}
-use native.Mathlib.Omega.{arith}
-use borrow.Author.Rules.{rules}
 use Rattle.image.proofs.bytes.number_at.Given as goal
 
 abbrev pub invariant-loop-j : goal.invariant-loop-j

@@ -1,6 +1,5 @@
 -- `bytes::put_four` meets its contract.
 use Rattle.image.proofs.Words.{four-put}
-use borrow.Author.Rules.{rules}
 use Rattle.image.proofs.bytes.put_four.Goals as goal
 
 pub returns : goal.returns

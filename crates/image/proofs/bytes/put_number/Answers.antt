@@ -1,16 +1,14 @@
 -- `bytes::put_number` meets its contract.
-use Prim.Native.Nat.{suc, ◌+◌, ◌-◌, ◌≤◌, ◌<◌}
+use Prim.Native.Nat.{suc, ◌+◌, ◌-◌, ◌<◌}
 use mathlib.Core.Path.{◌≡◌, ap, ◌∙◌}
 use native.Mathlib.Nat.{le_of_eq}
-use lib.ListN.{length, take, drop}
+use lib.ListN.{length}
 use lib.Seq.{take_all}
 use Rattle.image_layout.proofs.Join.{grown-new}
-use Rattle.image_layout.specs.Join.{Grown}
 use Rattle.little_endian.proofs.Numbers.{bytes-length}
 use Rattle.little_endian.specs.Numbers.{number_bytes}
 use Rattle.image.proofs.Words.{number-none, number-next, grown-part}
 use native.Mathlib.Omega.{arith}
-use borrow.Author.Rules.{rules}
 use Rattle.image.proofs.bytes.put_number.Goals as goal
 
 pub loop-j-preserved : goal.loop-j-preserved

@@ -1,16 +1,9 @@
 -- `bytes::put_number` meets its contract.
-use Prim.Native.Nat.{suc, ◌+◌, ◌-◌, ◌≤◌, ◌<◌}
-use mathlib.Core.Path.{◌≡◌, ap, ◌∙◌}
-use native.Mathlib.Nat.{le_of_eq}
-use lib.ListN.{length, take, drop}
-use lib.Seq.{take_all}
-use Rattle.image_layout.proofs.Join.{grown-new}
+use Prim.Native.Nat.{◌+◌, ◌-◌, ◌≤◌}
+use mathlib.Core.Path.{◌≡◌}
+use lib.ListN.{take, drop}
 use Rattle.image_layout.specs.Join.{Grown}
-use Rattle.little_endian.proofs.Numbers.{bytes-length}
 use Rattle.little_endian.specs.Numbers.{number_bytes}
-use Rattle.image.proofs.Words.{number-none, number-next, grown-part}
-use native.Mathlib.Omega.{arith}
-use borrow.Author.Rules.{rules}
 use Rattle.image.proofs.bytes.put_number.Given as goal
 
 -- what is stored are the first j bytes, and what is left of the number has the others

@@ -1,11 +1,9 @@
 -- `bytes::put_sixteen` meets its contract.
-use Prim.Native.Nat.{◌+◌, ◌-◌, ◌≤◌}
+use Prim.Native.Nat.{◌+◌}
 use mathlib.Core.Path.{◌≡◌}
 use native.Mathlib.Nat.{le_of_eq}
-use lib.ListN.{take}
 use lib.Seq.{take_all}
 use Rattle.image_layout.proofs.Join.{grown-none, grown-same, grown-new}
-use Rattle.image_layout.specs.Join.{Grown}
 use Rattle.image.proofs.Words.{grown-part}
 use native.Mathlib.Omega.{arith}
 use borrow.Author.Rules.{rules}
@@ -21,14 +19,14 @@ pub loop-j-preserved : goal.loop-j-preserved
 loop-j-preserved c =
     let a = c.args in
     let l = c.loop-j in
-    (omega (arith, c.loop-j-test.true), grown-part a.at l.j a.t1 l.invariant.1 (search rules) (omega (arith, c.loop-j-test.true, l.invariant.1.size, c.requires)))
+    (omega (arith, c.loop-j-test.true), grown-part a.at l.j a.bytes l.invariant.1 (search rules) (omega (arith, c.loop-j-test.true, l.invariant.1.size, c.requires)))
 
 pub returns : goal.returns
 returns c =
     let a = c.args in
     let l = c.loop-j in
     let e : l.j ≡ 16 = omega (arith, l.invariant.0, c.loop-j-test.false) in
-    grown-new (take_all 16 a.t1 (le_of_eq (search rules))) (rw e at l.invariant.1)
+    grown-new (take_all 16 a.bytes (le_of_eq (search rules))) (rw e at l.invariant.1)
 
 pub overflow_add-target : goal.overflow_add-target
 overflow_add-target c = omega (arith, c.loop-j-test.true, c.requires)

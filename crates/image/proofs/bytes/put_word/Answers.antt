@@ -3,7 +3,6 @@ use lib.ListN.{length-set}
 use Rattle.image.proofs.Words.{grown-four}
 use Rattle.little_endian.proofs.Numbers.{four_bytes}
 use native.Mathlib.Omega.{arith}
-use borrow.Author.Rules.{rules}
 use Rattle.image.proofs.bytes.put_word.Goals as goal
 
 pub bounds-buffer-at-2 : goal.bounds-buffer-at-2

@@ -1,12 +1,7 @@
 -- `bytes::put_words` meets its contract.
-use Prim.Native.Nat.{◌+◌, ◌*◌, ◌-◌, ◌≤◌}
 use mathlib.Core.Path.{◌≡◌}
-use lib.ListN.{drop}
-use Rattle.image_layout.specs.Join.{Grown}
-use Rattle.little_endian.specs.Numbers.{bytes_of}
 use Rattle.image.proofs.Words.{bytes-none, bytes-fours}
 use native.Mathlib.Omega.{arith}
-use borrow.Author.Rules.{rules}
 use Rattle.image.proofs.bytes.put_words.Goals as goal
 
 pub loop-j-init : goal.loop-j-init

@@ -1,13 +1,10 @@
 -- `bytes::sixteen_at` meets its contract.
-use Prim.Native.Nat.{◌-◌, ◌≤◌}
 use mathlib.Core.Path.{◌≡◌}
-use lib.ListN.{take, drop, length-drop}
+use lib.ListN.{drop, length-drop}
 use lib.Seq.{length-take-le}
 use Rattle.image_layout.proofs.Join.{grown-none, grown-whole}
-use Rattle.image_layout.specs.Join.{Grown}
 use Rattle.image.proofs.Words.{grown-copied}
 use native.Mathlib.Omega.{arith}
-use borrow.Author.Rules.{rules}
 use Rattle.image.proofs.bytes.sixteen_at.Goals as goal
 
 pub loop-j-preserved : goal.loop-j-preserved

@@ -1,13 +1,7 @@
 -- `bytes::sixteen_at` meets its contract.
 use Prim.Native.Nat.{◌-◌, ◌≤◌}
-use mathlib.Core.Path.{◌≡◌}
-use lib.ListN.{take, drop, length-drop}
-use lib.Seq.{length-take-le}
-use Rattle.image_layout.proofs.Join.{grown-none, grown-whole}
+use lib.ListN.{take, drop}
 use Rattle.image_layout.specs.Join.{Grown}
-use Rattle.image.proofs.Words.{grown-copied}
-use native.Mathlib.Omega.{arith}
-use borrow.Author.Rules.{rules}
 use Rattle.image.proofs.bytes.sixteen_at.Given as goal
 
 abbrev pub invariant-loop-j : goal.invariant-loop-j

@@ -2,7 +2,6 @@
 use lib.ListN.{length-set}
 use Rattle.image.proofs.Words.{four-taken}
 use native.Mathlib.Omega.{arith}
-use borrow.Author.Rules.{rules}
 use Rattle.image.proofs.bytes.take_four.Goals as goal
 
 pub returns : goal.returns

@@ -1,12 +1,7 @@
 -- `bytes::take_words` meets its contract.
-use Prim.Native.Nat.{◌+◌, ◌*◌, ◌-◌, ◌≤◌}
 use mathlib.Core.Path.{◌≡◌}
-use lib.ListN.{drop}
-use Rattle.image_layout.specs.Join.{Grown}
-use Rattle.little_endian.specs.Numbers.{words_of}
 use Rattle.image.proofs.Words.{words-none, words-fours}
 use native.Mathlib.Omega.{arith}
-use borrow.Author.Rules.{rules}
 use Rattle.image.proofs.bytes.take_words.Goals as goal
 
 pub take_four-requires : goal.take_four-requires

@@ -2,7 +2,6 @@
 use native.Mathlib.Nat.{add-zero, add_assoc}
 use native.Mathlib.Omega.{arith}
 use Rattle.little_endian.specs.Numbers.{number_at}
-use borrow.Author.Rules.{rules}
 use Rattle.image.proofs.bytes.word_at.Goals as goal
 
 pub returns : goal.returns

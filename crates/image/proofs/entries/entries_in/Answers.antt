@@ -1,5 +1,5 @@
 -- `entries::entries_in` meets its contract.
-use Prim.Native.Nat.{◌+◌, ◌*◌, ◌-◌, ◌≤◌}
+use Prim.Native.Nat.{◌+◌, ◌*◌}
 use mathlib.Core.Bool.{◌&&◌}
 use mathlib.Core.List.{[], ◌∷◌}
 use mathlib.Core.Path.{◌≡◌, refl, sym, ap, ◌∙◌}
@@ -8,13 +8,12 @@ use native.Mathlib.Numerals.{add-one}
 use Rattle.image_layout.proofs.Join.{grown-start, grown-join, grown-one, grown-new, grown-end}
 use Rattle.image_layout.proofs.Rows.{threads, ti-order}
 use Rattle.image_layout.proofs.Tests.{all_none, all-next}
-use Rattle.image_layout.specs.Join.{concat_below, all_below, Grown}
+use Rattle.image_layout.specs.Join.{all_below}
 use Rattle.image_layout.specs.Layout.{record_kinds, record_size}
 use Rattle.image.specs.Image.{is_entry, entry_or}
 use Rattle.image.specs.Types.{Ti}
 use Rattle.image.proofs.RecordIn.{fixed-place, body-room-in, entry_at, entries-read, threads-read}
 use native.Mathlib.Omega.{arith}
-use borrow.Author.Rules.{rules}
 use Rattle.image.proofs.entries.entries_in.Goals as goal
 
 pub entry_at-entry-requires : goal.entry_at-entry-requires

@@ -1,20 +1,10 @@
 -- `entries::entries_in` meets its contract.
 use Prim.Native.Nat.{◌+◌, ◌*◌, ◌-◌, ◌≤◌}
-use mathlib.Core.Bool.{◌&&◌}
 use mathlib.Core.List.{[], ◌∷◌}
-use mathlib.Core.Path.{◌≡◌, refl, sym, ap, ◌∙◌}
-use native.Mathlib.Nat.{mul-suc}
-use native.Mathlib.Numerals.{add-one}
-use Rattle.image_layout.proofs.Join.{grown-start, grown-join, grown-one, grown-new, grown-end}
-use Rattle.image_layout.proofs.Rows.{threads, ti-order}
-use Rattle.image_layout.proofs.Tests.{all_none, all-next}
+use mathlib.Core.Path.{◌≡◌}
 use Rattle.image_layout.specs.Join.{concat_below, all_below, Grown}
-use Rattle.image_layout.specs.Layout.{record_kinds, record_size}
 use Rattle.image.specs.Image.{is_entry, entry_or}
-use Rattle.image.specs.Types.{Ti}
-use Rattle.image.proofs.RecordIn.{fixed-place, body-room-in, entry_at, entries-read, threads-read}
-use native.Mathlib.Omega.{arith}
-use borrow.Author.Rules.{rules}
+use Rattle.image.proofs.RecordIn.{entry_at}
 use Rattle.image.proofs.entries.entries_in.Given as goal
 
 abbrev pub invariant-loop-t : goal.invariant-loop-t

@@ -1,5 +1,4 @@
 -- `entries::entry_or_zero` meets its contract.
-use borrow.Author.Rules.{rules}
 use Rattle.image.proofs.entries.entry_or_zero.Goals as goal
 
 pub returns-in-Refused : goal.returns-in-Refused

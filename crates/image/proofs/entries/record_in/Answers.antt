@@ -4,7 +4,6 @@ use Rattle.image_layout.specs.Layout.{record_kinds}
 use Rattle.image.specs.Types.{Hd}
 use Rattle.image.proofs.RecordIn.{body-room-in, machine-read, record-read}
 use native.Mathlib.Omega.{arith}
-use borrow.Author.Rules.{rules}
 use Rattle.image.proofs.entries.record_in.Goals as goal
 
 pub overflow_add-machine : goal.overflow_add-machine

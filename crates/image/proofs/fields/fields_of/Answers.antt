@@ -1,5 +1,4 @@
 -- `fields::fields_of` meets its contract.
-use borrow.Author.Rules.{rules}
 use Rattle.image.proofs.fields.fields_of.Goals as goal
 
 pub returns-in-Idle : goal.returns-in-Idle

@@ -1,7 +1,7 @@
 -- `fields::read_entry` meets its contract.
 use mathlib.Core.Path.{◌≡◌, refl, sym, ap, ◌∙◌}
 use mathlib.Core.Option.{Option, some, none}
-use borrow.Author.Rules.{rules}
+use Rattle.std.proofs.Common.{◌≢◌, arith}
 use borrow.Author.Tests.{ne_eqb}
 use Rattle.answer.specs.Answer.{Answer}
 use Rattle.image.specs.Fields.{checked_thread, status_of, thread_of}
@@ -36,7 +36,9 @@ pub returns-in_default : goal.returns-in_default
 unfolding checked_thread
 returns-in_default c =
     let f = c.args.fields in
-    let n = c.in_default.in_default-own.rest in
-    named f none
-    (simp (ne_eqb f.status 0 n.0.0.0.0.1, ne_eqb f.status 1 n.0.0.0.1, ne_eqb f.status 2 n.0.0.1, ne_eqb f.status 3 n.0.1, ne_eqb f.status 4 n.1))
-    refl
+    let n0 : f.status ≢ 0 = omega arith in
+    let n1 : f.status ≢ 1 = omega arith in
+    let n2 : f.status ≢ 2 = omega arith in
+    let n3 : f.status ≢ 3 = omega arith in
+    let n4 : f.status ≢ 4 = omega arith in
+    named f none (simp (ne_eqb f.status 0 n0, ne_eqb f.status 1 n1, ne_eqb f.status 2 n2, ne_eqb f.status 3 n3, ne_eqb f.status 4 n4)) refl

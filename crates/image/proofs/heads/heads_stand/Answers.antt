@@ -1,14 +1,10 @@
 -- `heads::heads_stand` meets its contract.
-use Prim.Native.Nat.{◌+◌, ◌-◌, ◌≤◌}
-use mathlib.Core.Bool.{true}
-use mathlib.Core.Path.{◌≡◌, sym, ap, ◌∙◌}
-use borrow.Author.Tests.{not-true, not-false}
-use Rattle.image_layout.specs.Join.{all_below}
+use Prim.Native.Nat.{◌+◌}
+use mathlib.Core.Path.{sym, ap, ◌∙◌}
 use Rattle.image_layout.specs.Layout.{head_of, record_size, record_at, heads_of, stands_at}
 use Rattle.image_layout.proofs.Rows.{record-next, record-room}
 use Rattle.image_layout.proofs.Tests.{all_none, all_more, all-less, all-stop}
 use native.Mathlib.Omega.{arith}
-use borrow.Author.Rules.{rules}
 use Rattle.image.proofs.heads.heads_stand.Goals as goal
 
 pub opens_so-stands-requires : goal.opens_so-stands-requires
@@ -23,7 +19,7 @@ returns-then-not-stands c =
     let a = c.args in
     let l = c.loop-i in
     let e = c.opens_so-stands.ensures in
-    let f = sym e ∙ not-true c.opens_so-stands.result c.if-not-stands.true in
+    let f = sym e ∙ c.if-not-stands.true in
     sym (all-less a.row.count l.i (λ k. stands_at (head_of a.row k) a.image.now (record_at a.row a.at k)) c.loop-i-test.true (rw (← l.invariant.1) f))
 
 pub overflow_add-p : goal.overflow_add-p
@@ -34,7 +30,7 @@ loop-i-preserved c =
     let a = c.args in
     let l = c.loop-i in
     let e = c.opens_so-stands.ensures in
-    let f = sym e ∙ not-false c.opens_so-stands.result c.if-not-stands.false in (
+    let f = sym e ∙ c.if-not-stands.false in (
       omega (arith, c.loop-i-test.true),
       ap (λ n. l.p + n) c.record_size-size.ensures ∙ (ap (λ n. n + record_size a.row) l.invariant.1 ∙ record-next a.row a.at l.i),
       all_more l.i (λ k. stands_at (head_of a.row k) a.image.now (record_at a.row a.at k)) l.invariant.2 (rw (← l.invariant.1) f),

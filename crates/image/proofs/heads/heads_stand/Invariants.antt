@@ -1,14 +1,9 @@
 -- `heads::heads_stand` meets its contract.
-use Prim.Native.Nat.{◌+◌, ◌-◌, ◌≤◌}
+use Prim.Native.Nat.{◌-◌, ◌≤◌}
 use mathlib.Core.Bool.{true}
-use mathlib.Core.Path.{◌≡◌, sym, ap, ◌∙◌}
-use borrow.Author.Tests.{not-true, not-false}
+use mathlib.Core.Path.{◌≡◌}
 use Rattle.image_layout.specs.Join.{all_below}
-use Rattle.image_layout.specs.Layout.{head_of, record_size, record_at, heads_of, stands_at}
-use Rattle.image_layout.proofs.Rows.{record-next, record-room}
-use Rattle.image_layout.proofs.Tests.{all_none, all_more, all-less, all-stop}
-use native.Mathlib.Omega.{arith}
-use borrow.Author.Rules.{rules}
+use Rattle.image_layout.specs.Layout.{head_of, record_at, stands_at}
 use Rattle.image.proofs.heads.heads_stand.Given as goal
 
 abbrev pub invariant-loop-i : goal.invariant-loop-i

@@ -1,15 +1,11 @@
 -- `heads::kinds_stand` meets its contract.
-use Prim.Native.Nat.{◌+◌, ◌-◌, ◌≤◌}
-use mathlib.Core.Bool.{true}
+use Prim.Native.Nat.{◌+◌}
 use mathlib.Core.Path.{◌≡◌, sym, ap, ◌∙◌}
-use borrow.Author.Tests.{not-true, not-false}
-use Rattle.image_layout.specs.Join.{all_below}
 use Rattle.image_layout.specs.Layout.{row_of, kind_at, extent_of, start_of, heads_of}
 use Rattle.image_layout.proofs.Rows.{start_none, start-next, start-room}
 use Rattle.image_layout.proofs.Tests.{all_none, all_more, all-less, all-stop}
 use Rattle.image.proofs.Bodies.{numbered}
 use native.Mathlib.Omega.{arith}
-use borrow.Author.Rules.{rules}
 use Rattle.image.proofs.heads.kinds_stand.Goals as goal
 
 pub heads_stand-stands-requires : goal.heads_stand-stands-requires
@@ -24,7 +20,7 @@ returns-then-not-stands c =
     let a = c.args in
     let l = c.loop-position in
     let e = c.row_of.ensures ∙ ap (row_of a.shape) c.kind_at-kind.ensures in
-    let f = sym c.heads_stand-stands.ensures ∙ not-true c.heads_stand-stands.result c.if-not-stands.true in
+    let f = sym c.heads_stand-stands.ensures ∙ c.if-not-stands.true in
     sym (all-less a.n l.position (λ q. heads_of (row_of a.shape (kind_at q)) a.image.now (start_of a.shape q)) c.loop-position-test.true (rw (← l.invariant.1, ← e) f))
 
 pub overflow_add-at : goal.overflow_add-at
@@ -41,7 +37,7 @@ loop-position-preserved c =
     let k = c.kind_at-kind.ensures in
     let e : c.extent_of-at.result ≡ extent_of (row_of a.shape (kind_at l.position)) = c.extent_of-at.ensures ∙ ap (λ k. extent_of (row_of a.shape k)) k in
     let r = c.row_of.ensures ∙ ap (row_of a.shape) k in
-    let f = sym c.heads_stand-stands.ensures ∙ not-false c.heads_stand-stands.result c.if-not-stands.false in (
+    let f = sym c.heads_stand-stands.ensures ∙ c.if-not-stands.false in (
       omega (arith, c.loop-position-test.true),
       ap (λ n. l.at + n) e ∙ (ap (λ n. n + extent_of (row_of a.shape (kind_at l.position))) l.invariant.1 ∙ sym (start-next a.shape l.position)),
       all_more l.position (λ q. heads_of (row_of a.shape (kind_at q)) a.image.now (start_of a.shape q)) l.invariant.2 (rw (← l.invariant.1, ← r) f),

@@ -1,15 +1,9 @@
 -- `heads::kinds_stand` meets its contract.
-use Prim.Native.Nat.{◌+◌, ◌-◌, ◌≤◌}
+use Prim.Native.Nat.{◌-◌, ◌≤◌}
 use mathlib.Core.Bool.{true}
-use mathlib.Core.Path.{◌≡◌, sym, ap, ◌∙◌}
-use borrow.Author.Tests.{not-true, not-false}
+use mathlib.Core.Path.{◌≡◌}
 use Rattle.image_layout.specs.Join.{all_below}
-use Rattle.image_layout.specs.Layout.{row_of, kind_at, extent_of, start_of, heads_of}
-use Rattle.image_layout.proofs.Rows.{start_none, start-next, start-room}
-use Rattle.image_layout.proofs.Tests.{all_none, all_more, all-less, all-stop}
-use Rattle.image.proofs.Bodies.{numbered}
-use native.Mathlib.Omega.{arith}
-use borrow.Author.Rules.{rules}
+use Rattle.image_layout.specs.Layout.{row_of, kind_at, start_of, heads_of}
 use Rattle.image.proofs.heads.kinds_stand.Given as goal
 
 abbrev pub invariant-loop-position : goal.invariant-loop-position

@@ -2,7 +2,6 @@
 use mathlib.Core.Path.{◌∙◌}
 use Rattle.image_layout.proofs.Standing.{head-within}
 use native.Mathlib.Omega.{arith}
-use borrow.Author.Rules.{rules}
 use Rattle.image.proofs.heads.opens_so.Goals as goal
 
 pub overflow_cast-i : goal.overflow_cast-i

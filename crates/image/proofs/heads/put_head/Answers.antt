@@ -3,7 +3,6 @@ use lib.ListN.{length-set}
 use Rattle.image_layout.proofs.Join.{grown-more}
 use Rattle.image.proofs.Words.{grown-two}
 use native.Mathlib.Omega.{arith}
-use borrow.Author.Rules.{rules}
 use Rattle.image.proofs.heads.put_head.Goals as goal
 
 pub shape_of-buffer : goal.shape_of-buffer

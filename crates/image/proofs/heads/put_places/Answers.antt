@@ -3,7 +3,6 @@ use lib.ListN.{length-set}
 use Rattle.image_layout.proofs.Join.{grown-none, grown-one}
 use Rattle.image.proofs.Words.{grown-two}
 use native.Mathlib.Omega.{arith}
-use borrow.Author.Rules.{rules}
 use Rattle.image.proofs.heads.put_places.Goals as goal
 
 pub returns-in-ByThread : goal.returns-in-ByThread

@@ -6,7 +6,6 @@ use Rattle.image.specs.Opening.{opening_number, read_opening}
 use Rattle.image.specs.Refusal.{content_number}
 use Rattle.image.proofs.Openings.{opening-start}
 use native.Mathlib.Omega.{arith}
-use borrow.Author.Rules.{rules}
 use Rattle.image.proofs.opening.judge_opening.Goals as goal
 
 pub kinds_stand-requires : goal.kinds_stand-requires

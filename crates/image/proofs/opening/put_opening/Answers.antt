@@ -2,7 +2,6 @@
 use mathlib.Core.Path.{sym, ◌∙◌}
 use Rattle.image.specs.Opening.{record_bytes}
 use Rattle.image.proofs.Openings.{opening-start, opening-suits}
-use borrow.Author.Rules.{rules}
 use Rattle.image.proofs.opening.put_opening.Goals as goal
 
 pub put_kinds-requires : goal.put_kinds-requires

@@ -7,7 +7,6 @@ use Rattle.machine.specs.Machine.{zeroed}
 use Rattle.image.specs.Calls.{reading, read_by}
 use Rattle.image.specs.Image.{machine_in}
 use Rattle.image.specs.Types.{Machine}
-use borrow.Author.Rules.{rules}
 use Rattle.image.proofs.reading.read_sized.Goals as goal
 
 pub take_registers-requires : goal.take_registers-requires
@@ -23,10 +22,9 @@ take_memory-requires c =
 pub returns-in-Refused : goal.returns-in-Refused
 returns-in-Refused c =
     let a = c.args in
-    let v = c.verdict-1.given in
-    let e = sym c.judge_records-judgement.ensures.0 ∙ ap number_of v.1 in
+    let e = sym c.judge_records-judgement.ensures.0 ∙ ap number_of c.in-Refused.is in
     let m = c.judge_records-judgement.ensures.1 ∙ ap (λ o. refused_or o (λ n. zeroed) (machine_in a.shape a.image.now)) e in
-    ap (λ (m : Machine). reading (refused v.0.0) (state m a.registers.now a.memory.now)) m
+    ap (λ (m : Machine). reading (refused c.in-Refused.number) (state m a.registers.now a.memory.now)) m
     ∙ sym (ap (λ o. read_by o a.shape a.image.now a.registers.now a.memory.now) e)
 
 pub returns-in-Accepted : goal.returns-in-Accepted

@@ -1,18 +1,9 @@
 -- `reading::take_bodies` meets its contract.
-use Prim.Native.Nat.{◌+◌, ◌*◌, ◌-◌, ◌≤◌, ◌<◌}
-use mathlib.Core.Path.{◌≡◌, ap, ◌∙◌}
-use native.Mathlib.Nat.{mul-suc}
-use native.Mathlib.Numerals.{add-one}
+use Prim.Native.Nat.{◌+◌, ◌*◌, ◌-◌, ◌≤◌}
+use mathlib.Core.Path.{◌≡◌}
 use lib.ListN.{drop}
-use Rattle.image_layout.proofs.Join.{fits_in, grown-start, grown-join, grown-end, grown-new, grown-same}
-use Rattle.image_layout.proofs.Rows.{size_few}
 use Rattle.image_layout.specs.Join.{concat_below, Grown}
-use Rattle.image_layout.specs.Layout.{row_of, record_size}
 use Rattle.little_endian.specs.Numbers.{words_of}
-use Rattle.image.proofs.RecordIn.{fixed-place, body-room}
-use Rattle.image.proofs.Rooms.{room-read}
-use native.Mathlib.Omega.{arith}
-use borrow.Author.Rules.{rules}
 use Rattle.image.proofs.reading.take_bodies.Given as goal
 
 abbrev pub invariant-loop-i : goal.invariant-loop-i

@@ -1,17 +1,15 @@
 -- `reading::take_memory` meets its contract.
-use Prim.Native.Nat.{◌+◌, ◌*◌, ◌-◌, ◌≤◌, ◌<◌}
+use Prim.Native.Nat.{◌+◌, ◌*◌, ◌<◌}
 use mathlib.Core.Path.{◌≡◌, sym, ap, ◌∙◌}
 use native.Mathlib.Nat.{mul-suc}
 use native.Mathlib.Numerals.{add-one}
 use lib.ListN.{take, drop}
 use Rattle.image_layout.proofs.Join.{grown-start, grown-join, grown-end, grown-new, grown-whole}
-use Rattle.image_layout.specs.Join.{concat_below, Grown}
 use Rattle.image_layout.specs.Layout.{row_of, record_size}
 use Rattle.image.specs.Types.{Mm}
 use Rattle.image.proofs.RecordIn.{fixed-place, body-room}
 use Rattle.image.proofs.Rooms.{memory-read, memory-length}
 use native.Mathlib.Omega.{arith}
-use borrow.Author.Rules.{rules}
 use Rattle.image.proofs.reading.take_memory.Goals as goal
 
 pub copy_sixteens-requires : goal.copy_sixteens-requires

@@ -1,6 +1,5 @@
 -- `reading::take_registers` meets its contract.
 use Rattle.image.proofs.Rooms.{registers-read}
-use borrow.Author.Rules.{rules}
 use Rattle.image.proofs.reading.take_registers.Goals as goal
 
 pub returns : goal.returns

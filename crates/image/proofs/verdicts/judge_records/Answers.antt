@@ -6,7 +6,6 @@ use Rattle.image_layout.proofs.Rows.{start-few}
 use Rattle.image_layout.specs.Layout.{kinds, record_kinds, heads_in}
 use Rattle.image.specs.Refusal.{content_number, records_number}
 use native.Mathlib.Omega.{arith}
-use borrow.Author.Rules.{rules}
 use Rattle.image.proofs.verdicts.judge_records.Goals as goal
 
 pub record_in-requires : goal.record_in-requires

@@ -1,7 +1,6 @@
 -- `verdicts::loses_counts` meets its contract.
 use mathlib.Core.Bool.{◌&&◌, not}
 use mathlib.Core.Path.{ap}
-use borrow.Author.Rules.{rules}
 use Rattle.image.proofs.verdicts.loses_counts.Goals as goal
 
 pub returns-in-Old : goal.returns-in-Old

@@ -1,15 +1,10 @@
 -- `verdicts::no_counts` meets its contract.
-use Prim.Native.Nat.{◌+◌, ◌-◌, ◌≤◌}
+use Prim.Native.Nat.{◌-◌, ◌≤◌}
 use mathlib.Core.Bool.{true}
-use mathlib.Core.Path.{◌≡◌, sym}
-use native.Mathlib.Omega.{arith}
-use borrow.Author.Rules.{rules}
-use borrow.Author.Tests.{eq-eqb, ne_eqb}
+use mathlib.Core.Path.{◌≡◌}
 use lib.Dec.{eqb}
-use Rattle.image_layout.proofs.Tests.{all_none, all_more, all-less, all-stop}
 use Rattle.image_layout.specs.Join.{all_below}
 use Rattle.machine.specs.Machine.{turns_at}
-use Rattle.image.specs.Refusal.{no_counts}
 use Rattle.image.proofs.verdicts.no_counts.Given as goal
 
 -- the first t counts are 0

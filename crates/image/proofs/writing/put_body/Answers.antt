@@ -9,7 +9,6 @@ use Rattle.little_endian.specs.Numbers.{bytes_of}
 use Rattle.image.specs.Image.{field_bytes}
 use Rattle.image.proofs.Words.{grown-two}
 use native.Mathlib.Omega.{arith}
-use borrow.Author.Rules.{rules}
 use Rattle.image.proofs.writing.put_body.Goals as goal
 
 pub bounds-buffer-at : goal.bounds-buffer-at

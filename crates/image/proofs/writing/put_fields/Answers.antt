@@ -5,7 +5,6 @@ use native.Mathlib.Omega.{arith}
 use Rattle.image_layout.proofs.Join.{grown-more, grown-new, grown-same}
 use Rattle.image_layout.proofs.Rows.{entry-least}
 use Rattle.image.proofs.Bodies.{entry-parts}
-use borrow.Author.Rules.{rules}
 use Rattle.image.proofs.writing.put_fields.Goals as goal
 
 pub put_status-requires : goal.put_status-requires

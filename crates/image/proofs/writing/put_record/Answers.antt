@@ -5,7 +5,6 @@ use Rattle.image_layout.proofs.Join.{grown-more, grown-new}
 use Rattle.image_layout.proofs.Rows.{head-length}
 use Rattle.image.proofs.Bodies.{place-fits}
 use native.Mathlib.Omega.{arith}
-use borrow.Author.Rules.{rules}
 use Rattle.image.proofs.writing.put_record.Goals as goal
 
 pub put_head-next-requires : goal.put_head-next-requires

@@ -1,14 +1,12 @@
 -- `writing::put_section` meets its contract.
-use Prim.Native.Nat.{◌-◌, ◌≤◌, ◌<◌}
+use Prim.Native.Nat.{◌<◌}
 use Rattle.machine.specs.State.{State, state}
 use Rattle.image_layout.proofs.Join.{grown-start, grown-join, grown-end, room_for}
 use Rattle.image_layout.proofs.Rows.{record-length}
-use Rattle.image_layout.specs.Join.{concat_below, Grown}
 use Rattle.image_layout.specs.Layout.{row_of, record_size, record_of, section_of}
 use Rattle.image.specs.Image.{body_of}
 use Rattle.image.proofs.Bodies.{body-length-of}
 use native.Mathlib.Omega.{arith}
-use borrow.Author.Rules.{rules}
 use Rattle.image.proofs.writing.put_section.Goals as goal
 
 pub loop-i-init : goal.loop-i-init

@@ -2,7 +2,6 @@
 use lib.ListN.{length-set}
 use Rattle.image.proofs.Words.{grown-four}
 use native.Mathlib.Omega.{arith}
-use borrow.Author.Rules.{rules}
 use Rattle.image.proofs.writing.put_status.Goals as goal
 
 pub bounds-buffer-at-2 : goal.bounds-buffer-at-2

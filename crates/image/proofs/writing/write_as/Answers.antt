@@ -16,7 +16,6 @@ use Rattle.image.specs.Types.{Form}
 use Rattle.image.proofs.Refusals.{sized, long, lengths, memory-blocks, write-number, write-by, write-good}
 use Rattle.image.proofs.Bodies.{suits}
 use native.Mathlib.Omega.{arith}
-use borrow.Author.Rules.{rules}
 use Rattle.image.proofs.writing.write_as.Goals as goal
 
 -- the two verdicts are the number of the call
@@ -26,20 +25,14 @@ refusal : (f : Form) (dropping : Bool) (s : State) (buffer : List ℕ) (fixed : 
 refusal f dropping s buffer fixed a b r h e g k =
     k ∙ ((λ i. refused_or ((e ∙ ap (λ n. sizes_number n (length s.registers) (length s.memory) (length buffer)) h) i) some (g i)) ∙ write-number f dropping s buffer)
 
--- and it is found when both have been
-number : (c : tie.After-first-refusal)
-    → number_of c.first-refusal.result
-    ≡ write_refusal c.before.before.before.before.before.before.before.args.form c.before.before.before.before.before.before.before.args.dropping (state c.before.before.before.before.before.before.before.args.machine c.before.before.before.before.before.before.before.args.registers.now c.before.before.before.before.before.before.before.args.memory.now) c.before.before.before.before.before.before.before.args.buffer.now
-number c =
-    let a = c.before.before.before.before.before.before.before.args in
-    refusal a.form a.dropping (state a.machine a.registers.now a.memory.now) a.buffer.now c.before.before.before.fixed-part.result _ _ _
-    c.before.before.before.fixed-part.ensures c.before.before.sizes-verdict.ensures c.before.judge-record.ensures c.first-refusal.ensures
+-- and it is found when both have been: `number`
 
 pub overflow_cast-shape : goal.overflow_cast-shape
 overflow_cast-shape c =
     let a = c.args in
     let s : State = state a.machine a.registers.now a.memory.now in
-    let e = write-good a.form a.dropping s a.buffer.now (sym (number c) ∙ ap number_of c.in-Accepted.is) in
+    let number = refusal a.form a.dropping s a.buffer.now c.fixed_part.result _ _ _ c.fixed_part.ensures c.sizes_verdict-sizes.ensures c.judge_record.ensures c.first_refusal-verdict.ensures in
+    let e = write-good a.form a.dropping s a.buffer.now (sym number ∙ ap number_of c.in-Accepted.is) in
     let k = sized a.form (length a.registers.now) (length a.memory.now) (length a.buffer.now) e.0 in
     omega (arith, memory-blocks (length a.memory.now) k.memory)
 
@@ -47,7 +40,8 @@ pub put_kinds-requires : goal.put_kinds-requires
 put_kinds-requires c =
     let a = c.args in
     let s : State = state a.machine a.registers.now a.memory.now in
-    let e = write-good a.form a.dropping s a.buffer.now (sym (number c) ∙ ap number_of c.in-Accepted.is) in
+    let number = refusal a.form a.dropping s a.buffer.now c.fixed_part.result _ _ _ c.fixed_part.ensures c.sizes_verdict-sizes.ensures c.judge_record.ensures c.first_refusal-verdict.ensures in
+    let e = write-good a.form a.dropping s a.buffer.now (sym number ∙ ap number_of c.in-Accepted.is) in
     let k = sized a.form (length a.registers.now) (length a.memory.now) (length a.buffer.now) e.0 in
     (λ q l. suits _ a.registers.now a.memory.now (lengths a.form a.registers.now a.memory.now (length a.buffer.now) k) (kind_at q), long a.form (length a.registers.now) (length a.memory.now) (length a.buffer.now) k)
 
@@ -55,13 +49,14 @@ pub returns-in-Refused : goal.returns-in-Refused
 returns-in-Refused c =
     let a = c.args in
     let s : State = state a.machine a.registers.now a.memory.now in
-    let v = c.verdict-1.given in
-    write-by a.form a.dropping s a.buffer.now (some v.0.0) (sym (number c) ∙ ap number_of v.1)
+    let number = refusal a.form a.dropping s a.buffer.now c.fixed_part.result _ _ _ c.fixed_part.ensures c.sizes_verdict-sizes.ensures c.judge_record.ensures c.first_refusal-verdict.ensures in
+    write-by a.form a.dropping s a.buffer.now (some c.in-Refused.number) (sym number ∙ ap number_of c.in-Refused.is)
 
 pub returns-in-Accepted : goal.returns-in-Accepted
 unfolding image laid_out
 returns-in-Accepted c =
     let a = c.args in
     let s : State = state a.machine a.registers.now a.memory.now in
+    let number = refusal a.form a.dropping s a.buffer.now c.fixed_part.result _ _ _ c.fixed_part.ensures c.sizes_verdict-sizes.ensures c.judge_record.ensures c.first_refusal-verdict.ensures in
     ap (writing (given tt)) c.put_kinds.ensures
-    ∙ write-by a.form a.dropping s a.buffer.now none (sym (number c) ∙ ap number_of c.in-Accepted.is)
+    ∙ write-by a.form a.dropping s a.buffer.now none (sym number ∙ ap number_of c.in-Accepted.is)

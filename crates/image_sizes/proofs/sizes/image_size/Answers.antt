@@ -1,7 +1,6 @@
 -- `sizes::image_size` meets its contract.
 use native.Mathlib.Omega.{arith}
 use Rattle.image_layout.proofs.Rows.{whole_length}
-use borrow.Author.Rules.{rules}
 use Rattle.image_sizes.proofs.sizes.image_size.Goals as goal
 
 pub returns : goal.returns

@@ -1,12 +1,9 @@
 -- `sum_of` meets its contract: what is left of the digits, added to the sum, is the whole.
 use Prim.Native.Nat.{◌-◌, ◌≤◌, ◌<◌}
-use mathlib.Core.Path.{◌≡◌, refl, sym, ◌∙◌}
-use native.Mathlib.Omega.{arith}
-use borrow.Author.Rules.{rules}
+use mathlib.Core.Path.{◌≡◌}
 use lib.ListN.{length, drop}
 use Rattle.intel_hex.specs.Digits.{pairs}
 use Rattle.intel_hex.specs.Scan.{digested}
-use Rattle.intel_hex.proofs.Pairs.{digest-step, digest-first, digest-second, digest-odd, digest-end}
 use Rattle.intel_hex.proofs.digits.sum_of.Given as goal
 
 abbrev pub invariant-loop-at : goal.invariant-loop-at

@@ -1,5 +1,4 @@
 -- `digit_of` meets its contract, below ten and above.
-use borrow.Author.Rules.{rules}
 use borrow.Author.Tests.{lt-ltb, le-ltb}
 use Rattle.intel_hex.proofs.exporting.digit_of.Goals as goal
 

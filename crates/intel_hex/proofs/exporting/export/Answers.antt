@@ -9,23 +9,10 @@ use Rattle.program.proofs.Sizes.{allowed}
 use Rattle.intel_hex.specs.Export.{record_text, body, export_text}
 use Rattle.intel_hex.specs.Program.{program_bytes}
 use Rattle.intel_hex.proofs.Bodies.{length-body, no_program, no_room, whole-text}
-use borrow.Author.Rules.{rules}
 use Rattle.intel_hex.proofs.exporting.export.Goals as goal
-
-pub bad_program-refused-requires : goal.bad_program-refused-requires
-bad_program-refused-requires c = search rules
 
 pub returns-then-refused : goal.returns-then-refused
 returns-then-refused c = no_program c.args.words.now c.args.text.now (sym c.bad_program-refused.ensures ∙ c.if-refused.true)
-
-pub overflow_add-n : goal.overflow_add-n
-overflow_add-n c = search rules
-
-pub overflow_mul-n : goal.overflow_mul-n
-overflow_mul-n c = search rules
-
-pub overflow_mul-n-2 : goal.overflow_mul-n-2
-overflow_mul-n-2 c = search rules
 
 pub overflow_add-n-2 : goal.overflow_add-n-2
 overflow_add-n-2 c = omega (arith, allowed (length c.args.words.now) (sym c.bad_program-refused.ensures ∙ c.if-refused.false))
@@ -49,11 +36,8 @@ put_record-p-requires c =
     let ws = x.words.now in
     let k = (length ws + 3) / 4 in
     let l = length-body ws k (omega arith) in
-    let w = length-wrote x.text.now 0 (body (program_bytes ws) k) b.result b.new.1.0 (omega arith) b.ensures in
+    let w = length-wrote x.text.now 0 (body (program_bytes ws) k) b.result b.new.out (omega arith) b.ensures in
     (omega arith, omega (arith, w.0, w.1), omega arith, omega arith, omega arith)
-
-pub shape_of-text : goal.shape_of-text
-shape_of-text c = search rules
 
 pub returns : goal.returns
 unfolding export_text
@@ -65,5 +49,5 @@ returns c =
     let o = x.text.now in
     let k = (length ws + 3) / 4 in
     let l = length-body ws k (omega arith) in
-    let e = next o 0 (body (program_bytes ws) k) (omega arith) (record_text 1 0 []) b.result b.new.1.0 q.result q.new.1.1.1.1.0 b.ensures q.ensures in
-    whole-text ws o q.result q.new.1.1.1.1.0 (sym c.bad_program-refused.ensures ∙ c.if-refused.false) c.if-text-n.false e
+    let e = next o 0 (body (program_bytes ws) k) (omega arith) (record_text 1 0 []) b.result b.new.out q.result q.new.out b.ensures q.ensures in
+    whole-text ws o q.result q.new.out (sym c.bad_program-refused.ensures ∙ c.if-refused.false) c.if-text-n.false e

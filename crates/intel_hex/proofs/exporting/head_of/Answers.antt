@@ -1,5 +1,4 @@
 -- `head_of` meets its contract, digit by digit.
-use borrow.Author.Rules.{rules}
 use Rattle.intel_hex.specs.Digits.{hexes}
 use Rattle.intel_hex.proofs.exporting.head_of.Goals as goal
 

@@ -1,50 +1,25 @@
 -- `put_body` meets its contract: after k turns the first k records stand in the buffer.
-use borrow.Author.Rules.{rules}
-use Prim.Native.Nat.{ℕ, ◌+◌, ◌-◌, ◌*◌, ◌/◌, ◌≤◌}
+use Prim.Native.Nat.{ℕ, ◌+◌, ◌*◌, ◌/◌}
 use mathlib.Core.List.{List}
 use mathlib.Core.Path.{◌≡◌, refl, ap, ◌∙◌}
 use native.Mathlib.Omega.{arith}
 use lib.ListN.{length, take, drop}
-use Rattle.text.specs.Buffer.{wrote, writes}
+use Rattle.text.specs.Buffer.{writes}
 use Rattle.text.proofs.Placing.{length-wrote, next, writes-none}
 use Rattle.intel_hex.specs.Export.{record_text, body}
 use Rattle.intel_hex.specs.Program.{program_bytes}
 use Rattle.intel_hex.proofs.Bodies.{length-body, next-record}
 use Rattle.intel_hex.proofs.exporting.put_body.Goals as goal
 
-pub overflow_add-count : goal.overflow_add-count
-overflow_add-count c = omega arith
-
 pub loop-k-init : goal.loop-k-init
 unfolding body
 loop-k-init c = (writes-none _ 0, omega arith, refl, omega arith)
-
-pub overflow_mul-words : goal.overflow_mul-words
-overflow_mul-words c = omega arith
-
-pub overflow_mul-k : goal.overflow_mul-k
-overflow_mul-k c = omega arith
-
-pub overflow_sub-words : goal.overflow_sub-words
-overflow_sub-words c = omega arith
-
-pub record_size-n-requires : goal.record_size-n-requires
-record_size-n-requires c = search rules
-
-pub overflow_mul-k-in-loop-k : goal.overflow_mul-k-in-loop-k
-overflow_mul-k-in-loop-k c = omega arith
 
 pub put_record-p-requires : goal.put_record-p-requires
 put_record-p-requires c =
     let l = c.loop-k in
     let b = length-body c.args.words.now l.k (omega arith) in
     (omega (arith, c.record_size-n.ensures.0, c.record_size-n.ensures.1), omega (arith, c.record_size-n.ensures.0, c.record_size-n.ensures.1), c.record_size-n.ensures.0, omega arith, omega arith)
-
-pub overflow_add-k : goal.overflow_add-k
-overflow_add-k c = omega arith
-
-pub loop-k-smaller : goal.loop-k-smaller
-loop-k-smaller c = omega arith
 
 pub loop-k-preserved : goal.loop-k-preserved
 loop-k-preserved c =
@@ -56,10 +31,10 @@ loop-k-preserved c =
     let o = x.out.now in
     let b = length-body ws l.k (omega arith) in
     let r = next-record ws l.k z.result (omega arith) z.ensures.0 z.ensures.1 z.ensures.2 in
-    let e = next o 0 (body (program_bytes ws) l.k) (omega arith) (record_text 0 (16 * l.k) (take z.result (drop (16 * l.k) (program_bytes ws)))) l.p l.out q.result q.new.1.1.1.1.0 l.invariant.0 q.ensures in
+    let e = next o 0 (body (program_bytes ws) l.k) (omega arith) (record_text 0 (16 * l.k) (take z.result (drop (16 * l.k) (program_bytes ws)))) l.p l.out q.result q.new.out l.invariant.0 q.ensures in
     let f = e ∙ ap (λ (u : List ℕ). writes o 0 u) r in
     let m = length-body ws (l.k + 1) (omega arith) in
-    let w = length-wrote o 0 (body (program_bytes ws) (l.k + 1)) q.result q.new.1.1.1.1.0 (omega arith) f in
+    let w = length-wrote o 0 (body (program_bytes ws) (l.k + 1)) q.result q.new.out (omega arith) f in
     (f, omega arith, w.1, omega (arith, w.0))
 
 pub shape_of-out : goal.shape_of-out

@@ -1,15 +1,10 @@
 -- `put_body` meets its contract: after k turns the first k records stand in the buffer.
-use borrow.Author.Rules.{rules}
-use Prim.Native.Nat.{ℕ, ◌+◌, ◌-◌, ◌*◌, ◌/◌, ◌≤◌}
-use mathlib.Core.List.{List}
-use mathlib.Core.Path.{◌≡◌, refl, ap, ◌∙◌}
-use native.Mathlib.Omega.{arith}
-use lib.ListN.{length, take, drop}
+use Prim.Native.Nat.{◌+◌, ◌-◌, ◌/◌, ◌≤◌}
+use mathlib.Core.Path.{◌≡◌}
+use lib.ListN.{length}
 use Rattle.text.specs.Buffer.{wrote, writes}
-use Rattle.text.proofs.Placing.{length-wrote, next, writes-none}
-use Rattle.intel_hex.specs.Export.{record_text, body}
+use Rattle.intel_hex.specs.Export.{body}
 use Rattle.intel_hex.specs.Program.{program_bytes}
-use Rattle.intel_hex.proofs.Bodies.{length-body, next-record}
 use Rattle.intel_hex.proofs.exporting.put_body.Given as goal
 
 abbrev pub invariant-loop-k : goal.invariant-loop-k

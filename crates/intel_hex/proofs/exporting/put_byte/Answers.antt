@@ -7,29 +7,10 @@ use lib.ListN.{length-set, set}
 use Rattle.text.specs.Buffer.{Wrote, wrote}
 use Rattle.text.proofs.Placing.{next, writes_one}
 use Rattle.intel_hex.specs.Digits.{hexes}
-use borrow.Author.Rules.{rules}
 use Rattle.intel_hex.proofs.exporting.put_byte.Goals as goal
-
-pub digit_of-requires : goal.digit_of-requires
-digit_of-requires c = search rules
-
-pub bounds-out-at : goal.bounds-out-at
-bounds-out-at c = search rules
-
-pub digit_of-requires-2 : goal.digit_of-requires-2
-digit_of-requires-2 c = search rules
-
-pub overflow_add-out : goal.overflow_add-out
-overflow_add-out c = search rules
 
 pub bounds-out-at-2 : goal.bounds-out-at-2
 bounds-out-at-2 c = simp length-set (omega arith)
-
-pub overflow_add-result : goal.overflow_add-result
-overflow_add-result c = search rules
-
-pub shape_of-out : goal.shape_of-out
-shape_of-out c = search rules
 
 pub returns : goal.returns
 unfolding hexes

@@ -1,10 +1,10 @@
 -- `put_bytes` meets its contract: after i turns the first i bytes stand in the buffer.
-use Prim.Native.Nat.{ℕ, ◌+◌, ◌-◌, ◌*◌, ◌≤◌}
+use Prim.Native.Nat.{ℕ}
 use mathlib.Core.List.{List, [], ◌∷◌}
 use mathlib.Core.Path.{◌≡◌, refl, sym, ap, ◌∙◌}
 use native.Mathlib.Omega.{arith}
-use lib.ListN.{length, take, drop}
-use Rattle.text.specs.Buffer.{wrote, writes}
+use lib.ListN.{take, drop}
+use Rattle.text.specs.Buffer.{writes}
 use Rattle.text.proofs.Placing.{next, writes-none, end_is}
 use Rattle.intel_hex.specs.Digits.{hexes}
 use Rattle.intel_hex.specs.Program.{program_bytes}
@@ -15,20 +15,8 @@ pub loop-i-init : goal.loop-i-init
 unfolding hexes
 loop-i-init c = (writes-none _ _, omega arith, refl, omega arith)
 
-pub overflow_add-from : goal.overflow_add-from
-overflow_add-from c = omega arith
-
-pub program_byte-requires : goal.program_byte-requires
-program_byte-requires c = omega arith
-
 pub put_byte-p-requires : goal.put_byte-p-requires
 put_byte-p-requires c = (omega arith, c.program_byte.ensures.1)
-
-pub overflow_add-i : goal.overflow_add-i
-overflow_add-i c = omega arith
-
-pub loop-i-smaller : goal.loop-i-smaller
-loop-i-smaller c = omega arith
 
 pub loop-i-preserved : goal.loop-i-preserved
 loop-i-preserved c =

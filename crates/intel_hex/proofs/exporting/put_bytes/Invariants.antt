@@ -1,14 +1,10 @@
 -- `put_bytes` meets its contract: after i turns the first i bytes stand in the buffer.
-use Prim.Native.Nat.{ℕ, ◌+◌, ◌-◌, ◌*◌, ◌≤◌}
-use mathlib.Core.List.{List, [], ◌∷◌}
-use mathlib.Core.Path.{◌≡◌, refl, sym, ap, ◌∙◌}
-use native.Mathlib.Omega.{arith}
+use Prim.Native.Nat.{◌+◌, ◌-◌, ◌*◌, ◌≤◌}
+use mathlib.Core.Path.{◌≡◌}
 use lib.ListN.{length, take, drop}
 use Rattle.text.specs.Buffer.{wrote, writes}
-use Rattle.text.proofs.Placing.{next, writes-none, end_is}
 use Rattle.intel_hex.specs.Digits.{hexes}
 use Rattle.intel_hex.specs.Program.{program_bytes}
-use Rattle.intel_hex.proofs.Texts.{hexes-more, length-hexes-take, length-pair}
 use Rattle.intel_hex.proofs.exporting.put_bytes.Given as goal
 
 abbrev pub invariant-loop-i : goal.invariant-loop-i

@@ -10,38 +10,7 @@ use Rattle.intel_hex.specs.Digits.{hexes}
 use Rattle.intel_hex.specs.Export.{heads, checksum}
 use Rattle.intel_hex.specs.Program.{program_bytes}
 use Rattle.intel_hex.proofs.Texts.{length-head, length-tail, length-hexes-take, record-parts}
-use borrow.Author.Rules.{rules}
 use Rattle.intel_hex.proofs.exporting.put_record.Goals as goal
-
-pub overflow_cast-f : goal.overflow_cast-f
-overflow_cast-f c = search rules
-
-pub overflow_cast-c : goal.overflow_cast-c
-overflow_cast-c c = search rules
-
-pub head_of-head-requires : goal.head_of-head-requires
-head_of-head-requires c = search rules
-
-pub overflow_add-c : goal.overflow_add-c
-overflow_add-c c = search rules
-
-pub overflow_add-c-2 : goal.overflow_add-c-2
-overflow_add-c-2 c = search rules
-
-pub overflow_add-c-3 : goal.overflow_add-c-3
-overflow_add-c-3 c = search rules
-
-pub sum_from-requires : goal.sum_from-requires
-sum_from-requires c = search rules
-
-pub tail_of-tail-requires : goal.tail_of-tail-requires
-tail_of-tail-requires c = search rules
-
-pub slice_bounds-put_text-end : goal.slice_bounds-put_text-end
-slice_bounds-put_text-end c = search rules
-
-pub put_text-p-requires : goal.put_text-p-requires
-put_text-p-requires c = search rules
 
 pub put_bytes-p-requires : goal.put_bytes-p-requires
 put_bytes-p-requires c =
@@ -49,18 +18,9 @@ put_bytes-p-requires c =
     let q = c.put_text-p in
     let l = c.args.out.now in
     let t : List ℕ = 58 ∷ hexes (heads c.args.n c.args.from c.args.kind) in
-    let e : wrote q.result q.new.0 ≡ writes l c.args.at t = q.ensures ∙ ap (λ (u : List ℕ). puts (wrote c.args.at l) u) h.ensures ∙ puts-at l c.args.at t (omega (arith, length-head c.args.n c.args.from c.args.kind)) in
-    let r = length-wrote l c.args.at t q.result q.new.0 (omega (arith, length-head c.args.n c.args.from c.args.kind)) e in
+    let e : wrote q.result q.new.out ≡ writes l c.args.at t = q.ensures ∙ ap (λ (u : List ℕ). puts (wrote c.args.at l) u) h.ensures ∙ puts-at l c.args.at t (omega (arith, length-head c.args.n c.args.from c.args.kind)) in
+    let r = length-wrote l c.args.at t q.result q.new.out (omega (arith, length-head c.args.n c.args.from c.args.kind)) e in
     (omega arith, omega (arith, r.0, r.1, length-head c.args.n c.args.from c.args.kind))
-
-pub slice_bounds-put_text-end-2 : goal.slice_bounds-put_text-end-2
-slice_bounds-put_text-end-2 c = search rules
-
-pub put_text-requires : goal.put_text-requires
-put_text-requires c = search rules
-
-pub shape_of-out : goal.shape_of-out
-shape_of-out c = search rules
 
 pub returns : goal.returns
 returns c =
@@ -82,7 +42,7 @@ returns c =
     let a = length-head n from kind in
     let d = length-hexes-take ws from n (omega arith) in
     let k = length-tail (checksum s.result) in
-    let e : wrote q.result q.new.0 ≡ writes l at t = q.ensures ∙ ap (λ (u : List ℕ). puts (wrote at l) u) h.ensures ∙ puts-at l at t (omega arith) in
-    let f : wrote b.result b.new.1.1.1.0 ≡ writes l at (t ++ u) = next l at t (omega arith) u q.result q.new.0 b.result b.new.1.1.1.0 e b.ensures in
+    let e : wrote q.result q.new.out ≡ writes l at t = q.ensures ∙ ap (λ (u : List ℕ). puts (wrote at l) u) h.ensures ∙ puts-at l at t (omega arith) in
+    let f : wrote b.result b.new.out ≡ writes l at (t ++ u) = next l at t (omega arith) u q.result q.new.out b.result b.new.out e b.ensures in
     z.ensures ∙ ap (λ (w : Wrote). puts w y.result) f ∙ ap (λ (w : List ℕ). puts (writes l at (t ++ u)) w) y.ensures
     ∙ puts-fits l at (t ++ u) v (omega (arith, length-append t u)) ∙ ap (λ (w : List ℕ). writes l at w) (record-parts ws kind from n s.result (omega arith) s.ensures)

@@ -1,5 +1,5 @@
 -- `sum_from` meets its contract: after i turns the first i bytes are added.
-use Prim.Native.Nat.{◌+◌, ◌-◌, ◌%◌, ◌≤◌, ◌<◌}
+use Prim.Native.Nat.{◌+◌, ◌%◌}
 use mathlib.Core.Path.{◌≡◌}
 use native.Mathlib.Omega.{arith}
 use lib.ListN.{take, drop}
@@ -12,20 +12,8 @@ pub loop-i-init : goal.loop-i-init
 unfolding total
 loop-i-init c = (omega arith, omega arith, omega arith)
 
-pub overflow_add-from : goal.overflow_add-from
-overflow_add-from c = omega arith
-
-pub program_byte-requires : goal.program_byte-requires
-program_byte-requires c = omega arith
-
 pub overflow_add-s : goal.overflow_add-s
 overflow_add-s c = omega (arith, c.program_byte.ensures.1)
-
-pub overflow_add-i : goal.overflow_add-i
-overflow_add-i c = omega arith
-
-pub loop-i-smaller : goal.loop-i-smaller
-loop-i-smaller c = omega arith
 
 pub loop-i-preserved : goal.loop-i-preserved
 loop-i-preserved c =

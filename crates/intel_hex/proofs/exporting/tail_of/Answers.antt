@@ -1,5 +1,4 @@
 -- `tail_of` meets its contract, digit by digit.
-use borrow.Author.Rules.{rules}
 use native.Mathlib.Nat.{mod-eq_of_lt}
 use Rattle.intel_hex.specs.Digits.{hexes}
 use Rattle.intel_hex.proofs.exporting.tail_of.Goals as goal

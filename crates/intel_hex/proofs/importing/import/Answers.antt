@@ -2,7 +2,6 @@
 use mathlib.Core.Path.{sym, ◌∙◌}
 use Rattle.intel_hex.specs.File.{image_of}
 use Rattle.intel_hex.proofs.Passing.{import-refused, import-size, import-short, import-whole, image-fits}
-use borrow.Author.Rules.{rules}
 use Rattle.intel_hex.proofs.importing.import.Goals as goal
 
 pub returns-then-refused : goal.returns-then-refused

@@ -1,12 +1,9 @@
 -- `judge` meets its contract: what is read so far, and the lines that are left, are the whole file.
-use Prim.Native.Nat.{◌-◌}
 use mathlib.Core.Path.{sym, ap, ◌∙◌}
-use borrow.Author.Rules.{rules}
 use native.Mathlib.Omega.{arith}
-use lib.ListN.{length}
 use Rattle.intel_hex.specs.Scan.{advanced}
 use Rattle.intel_hex.specs.Types.{Step}
-use Rattle.intel_hex.proofs.Scanning.{Judging, begin, judged-behind, judged-unended, judged-whole, judged-endless, judged-stops, judging}
+use Rattle.intel_hex.proofs.Scanning.{begin, judged-behind, judged-unended, judged-whole, judged-endless, judged-stops, judging}
 use Rattle.intel_hex.proofs.scan.judge.Goals as goal
 
 pub loop-at-init : goal.loop-at-init
@@ -17,31 +14,10 @@ returns-then-c c =
     let l = c.loop-at in
     judged-behind c.args.text.now l.c l.line l.at l.invariant (omega arith) c.if-c.true
 
-pub line_end-e-requires : goal.line_end-e-requires
-line_end-e-requires c = omega arith
-
 pub returns-then-e-text : goal.returns-then-e-text
 returns-then-e-text c =
     let l = c.loop-at in
     judged-unended c.args.text.now l.c l.line l.at l.invariant (omega arith) c.if-c.false (sym c.line_end-e.ensures.0 ∙ c.if-e-text.true)
-
-pub slice_bounds-heading_of-count : goal.slice_bounds-heading_of-count
-slice_bounds-heading_of-count c = omega arith
-
-pub slice_bounds-heading_of-start : goal.slice_bounds-heading_of-start
-slice_bounds-heading_of-start c = omega arith
-
-pub slice_bounds-heading_of-end : goal.slice_bounds-heading_of-end
-slice_bounds-heading_of-end c = omega arith
-
-pub heading_of-h-requires : goal.heading_of-h-requires
-heading_of-h-requires c = search rules
-
-pub advance-requires : goal.advance-requires
-advance-requires c = search rules
-
-pub enum_known-number : goal.enum_known-number
-enum_known-number c = search rules
 
 pub returns-in-Stopped : goal.returns-in-Stopped
 returns-in-Stopped c =
@@ -49,18 +25,6 @@ returns-in-Stopped c =
     judged-stops c.args.text.now l.c l.line l.at l.invariant
     c.line_end-e.result (omega arith) c.if-c.false c.line_end-e.ensures.0 _
     (ap {B = Step} (λ x. advanced l.c x) (sym c.heading_of-h.ensures) ∙ sym c.advance.ensures ∙ c.in-Stopped.is)
-
-pub enum_known-next : goal.enum_known-next
-enum_known-next c = search rules
-
-pub overflow_add-line : goal.overflow_add-line
-overflow_add-line c = omega arith
-
-pub overflow_add-at : goal.overflow_add-at
-overflow_add-at c = omega arith
-
-pub loop-at-smaller : goal.loop-at-smaller
-loop-at-smaller c = omega arith
 
 pub loop-at-preserved : goal.loop-at-preserved
 loop-at-preserved c =

@@ -1,12 +1,7 @@
 -- `judge` meets its contract: what is read so far, and the lines that are left, are the whole file.
 use Prim.Native.Nat.{◌-◌}
-use mathlib.Core.Path.{sym, ap, ◌∙◌}
-use borrow.Author.Rules.{rules}
-use native.Mathlib.Omega.{arith}
 use lib.ListN.{length}
-use Rattle.intel_hex.specs.Scan.{advanced}
-use Rattle.intel_hex.specs.Types.{Step}
-use Rattle.intel_hex.proofs.Scanning.{Judging, begin, judged-behind, judged-unended, judged-whole, judged-endless, judged-stops, judging}
+use Rattle.intel_hex.proofs.Scanning.{Judging}
 use Rattle.intel_hex.proofs.scan.judge.Given as goal
 
 abbrev pub invariant-loop-at : goal.invariant-loop-at

@@ -1,17 +1,11 @@
 -- `line_end` meets its contract: what is passed has no LF.
-use Prim.Native.Nat.{◌+◌, ◌-◌, ◌≤◌}
-use mathlib.Core.Path.{◌≡◌, refl}
+use mathlib.Core.Path.{refl}
 use native.Mathlib.Omega.{arith}
-use lib.ListN.{length, drop}
-use Rattle.intel_hex.specs.Scan.{line_length}
 use Rattle.intel_hex.proofs.Lines.{length-stop, length_more, length_none}
 use Rattle.intel_hex.proofs.scan.line_end.Goals as goal
 
 pub loop-i-init : goal.loop-i-init
 loop-i-init c = (omega arith, omega arith, refl)
-
-pub bounds-text-i : goal.bounds-text-i
-bounds-text-i c = omega arith
 
 pub returns-then-text-i-eq10 : goal.returns-then-text-i-eq10
 returns-then-text-i-eq10 c =
@@ -19,12 +13,6 @@ returns-then-text-i-eq10 c =
     let l = c.loop-i in
     let e = length-stop x.text.now l.i (omega arith) c.if-text-i-eq10.true in
     (omega (arith, l.invariant.2), omega arith, omega arith)
-
-pub overflow_add-i : goal.overflow_add-i
-overflow_add-i c = omega arith
-
-pub loop-i-smaller : goal.loop-i-smaller
-loop-i-smaller c = omega arith
 
 pub loop-i-preserved : goal.loop-i-preserved
 loop-i-preserved c =

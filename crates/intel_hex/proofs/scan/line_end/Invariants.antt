@@ -1,10 +1,8 @@
 -- `line_end` meets its contract: what is passed has no LF.
 use Prim.Native.Nat.{◌+◌, ◌-◌, ◌≤◌}
-use mathlib.Core.Path.{◌≡◌, refl}
-use native.Mathlib.Omega.{arith}
+use mathlib.Core.Path.{◌≡◌}
 use lib.ListN.{length, drop}
 use Rattle.intel_hex.specs.Scan.{line_length}
-use Rattle.intel_hex.proofs.Lines.{length-stop, length_more, length_none}
 use Rattle.intel_hex.proofs.scan.line_end.Given as goal
 
 abbrev pub invariant-loop-i : goal.invariant-loop-i

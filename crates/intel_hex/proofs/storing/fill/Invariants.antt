@@ -1,11 +1,8 @@
 -- `fill` meets its contract: what is stored and what is left to store are the whole.
-use Prim.Native.Nat.{ℕ, ◌+◌, ◌-◌, ◌≤◌}
-use mathlib.Core.List.{List}
-use mathlib.Core.Path.{◌≡◌, refl, sym, ap, ◌∙◌}
-use native.Mathlib.Omega.{arith}
+use Prim.Native.Nat.{◌-◌, ◌≤◌}
+use mathlib.Core.Path.{◌≡◌}
 use lib.ListN.{length, replicate}
 use Rattle.intel_hex.specs.Storing.{store_all}
-use Rattle.intel_hex.proofs.Stored.{length-put, fill_step, fill_end}
 use Rattle.intel_hex.proofs.storing.fill.Given as goal
 
 abbrev pub invariant-loop-a : goal.invariant-loop-a

@@ -5,20 +5,7 @@ use native.Mathlib.Omega.{arith}
 use lib.ListN.{get_or}
 use Rattle.intel_hex.specs.Storing.{put_byte}
 use Rattle.intel_hex.proofs.Words.{power-some, put-fits}
-use borrow.Author.Rules.{rules}
 use Rattle.intel_hex.proofs.storing.put_at.Goals as goal
-
-pub offset_bounds-a : goal.offset_bounds-a
-offset_bounds-a c = search rules
-
-pub bounds-a : goal.bounds-a
-bounds-a c = search rules
-
-pub offset_bounds-words-a : goal.offset_bounds-words-a
-offset_bounds-words-a c = search rules
-
-pub bounds-words-a : goal.bounds-words-a
-bounds-words-a c = search rules
 
 pub nonzero_rem-words : goal.nonzero_rem-words
 nonzero_rem-words c = power-some (c.args.a % 4) (omega arith)
@@ -28,15 +15,6 @@ overflow_mul-words c = let f = put-fits (c.args.a % 4) (get_or c.args.words.now 
 
 pub overflow_add-words : goal.overflow_add-words
 overflow_add-words c = let f = put-fits (c.args.a % 4) (get_or c.args.words.now (c.args.a / 4) 0) c.args.b (omega arith) (omega arith) in omega (arith, f.1)
-
-pub offset_bounds-words-a-2 : goal.offset_bounds-words-a-2
-offset_bounds-words-a-2 c = search rules
-
-pub bounds-words-a-2 : goal.bounds-words-a-2
-bounds-words-a-2 c = search rules
-
-pub shape_of-words : goal.shape_of-words
-shape_of-words c = search rules
 
 pub returns : goal.returns
 unfolding put_byte

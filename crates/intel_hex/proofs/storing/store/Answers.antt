@@ -1,47 +1,17 @@
 -- `store` meets its contract: what is stored, and the lines that are left, are the whole file.
-use Prim.Native.Nat.{◌-◌}
 use mathlib.Core.Path.{◌≡◌}
-use borrow.Author.Rules.{rules}
 use native.Mathlib.Omega.{arith}
-use lib.ListN.{length}
-use Rattle.intel_hex.proofs.Passing.{Storing, begin, stored, inside, fits, goes, same-image}
+use Rattle.intel_hex.proofs.Passing.{begin, stored, inside, fits, goes, same-image}
 use Rattle.intel_hex.proofs.storing.store.Goals as goal
 
 pub loop-at-init : goal.loop-at-init
 loop-at-init c = begin c.args.text.now c.args.words.now
-
-pub line_end-e-requires : goal.line_end-e-requires
-line_end-e-requires c = omega arith
-
-pub slice_bounds-heading_of-count : goal.slice_bounds-heading_of-count
-slice_bounds-heading_of-count c = omega arith
-
-pub slice_bounds-heading_of-start : goal.slice_bounds-heading_of-start
-slice_bounds-heading_of-start c = omega arith
-
-pub slice_bounds-heading_of-end : goal.slice_bounds-heading_of-end
-slice_bounds-heading_of-end c = omega arith
-
-pub heading_of-h-requires : goal.heading_of-h-requires
-heading_of-h-requires c = search rules
-
-pub slice_bounds-store_record-count : goal.slice_bounds-store_record-count
-slice_bounds-store_record-count c = omega arith
-
-pub slice_bounds-store_record-start : goal.slice_bounds-store_record-start
-slice_bounds-store_record-start c = omega arith
-
-pub slice_bounds-store_record-end : goal.slice_bounds-store_record-end
-slice_bounds-store_record-end c = omega arith
 
 pub store_record-p-requires : goal.store_record-p-requires
 store_record-p-requires c = fits c.args.text.now c.args.words.now c.loop-at.p c.loop-at.words c.loop-at.at c.loop-at.invariant c.requires.bytes c.requires.is (omega arith) c.requires.room c.line_end-e.result c.line_end-e.ensures.0 c.line_end-e.ensures.1 c.line_end-e.ensures.2 c.heading_of-h.result c.heading_of-h.ensures
 
 pub overflow_add-at : goal.overflow_add-at
 overflow_add-at c = let i = inside c.args.text.now c.args.words.now c.loop-at.p c.loop-at.words c.loop-at.at c.loop-at.invariant c.requires.bytes c.requires.is (omega arith) c.requires.room c.line_end-e.result c.line_end-e.ensures.0 c.line_end-e.ensures.1 c.line_end-e.ensures.2 in omega arith
-
-pub loop-at-smaller : goal.loop-at-smaller
-loop-at-smaller c = omega arith
 
 pub loop-at-preserved : goal.loop-at-preserved
 loop-at-preserved c = goes c.args.text.now c.args.words.now c.loop-at.p c.loop-at.words c.loop-at.at c.loop-at.invariant c.requires.bytes c.requires.is (omega arith) c.requires.room c.line_end-e.result c.line_end-e.ensures.0 c.line_end-e.ensures.1 c.line_end-e.ensures.2 c.heading_of-h.result c.store_record-p.result _ c.heading_of-h.ensures c.store_record-p.ensures.0 c.store_record-p.ensures.1

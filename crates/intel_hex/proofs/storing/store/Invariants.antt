@@ -1,10 +1,7 @@
 -- `store` meets its contract: what is stored, and the lines that are left, are the whole file.
 use Prim.Native.Nat.{◌-◌}
-use mathlib.Core.Path.{◌≡◌}
-use borrow.Author.Rules.{rules}
-use native.Mathlib.Omega.{arith}
 use lib.ListN.{length}
-use Rattle.intel_hex.proofs.Passing.{Storing, begin, stored, inside, fits, goes, same-image}
+use Rattle.intel_hex.proofs.Passing.{Storing}
 use Rattle.intel_hex.proofs.storing.store.Given as goal
 
 abbrev pub invariant-loop-at : goal.invariant-loop-at

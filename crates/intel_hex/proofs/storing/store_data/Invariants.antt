@@ -1,11 +1,8 @@
 -- `store_data` meets its contract: what is stored and what is left to store are the whole.
-use Prim.Native.Nat.{ℕ, ◌+◌, ◌-◌, ◌≤◌}
-use mathlib.Core.List.{List}
-use mathlib.Core.Path.{◌≡◌, refl, sym, ap, ◌∙◌}
-use native.Mathlib.Omega.{arith}
+use Prim.Native.Nat.{◌+◌, ◌-◌, ◌≤◌}
+use mathlib.Core.Path.{◌≡◌}
 use lib.ListN.{length}
 use Rattle.intel_hex.specs.Storing.{store_all, pair_bytes}
-use Rattle.intel_hex.proofs.Stored.{length-put, data-start, data-step, data-end}
 use Rattle.intel_hex.proofs.storing.store_data.Given as goal
 
 abbrev pub invariant-loop-i : goal.invariant-loop-i

@@ -1,5 +1,4 @@
 -- `bad_bytes` meets its contract, test by test.
-use borrow.Author.Rules.{rules}
 use Rattle.program.proofs.reading.bad_bytes.Goals as goal
 
 pub returns : goal.returns

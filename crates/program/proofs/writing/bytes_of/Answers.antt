@@ -1,6 +1,5 @@
 -- `bytes_of` meets its contract, byte by byte.
 use mathlib.Core.Path.{sym}
-use borrow.Author.Rules.{rules}
 use Rattle.little_endian.proofs.Numbers.{four_bytes}
 use Rattle.program.proofs.writing.bytes_of.Goals as goal
 

@@ -1,15 +1,9 @@
 -- `put_words` meets its contract: after k turns the bytes of the first k words stand in the buffer.
-use Prim.Native.Nat.{ℕ, ◌+◌, ◌-◌, ◌*◌, ◌≤◌}
-use mathlib.Core.List.{List}
-use mathlib.Core.Path.{◌≡◌, refl, sym, ap, ◌∙◌}
-use native.Mathlib.Numerals.{add-one}
-use native.Mathlib.Omega.{arith}
-use borrow.Author.Rules.{rules}
-use lib.ListN.{length, get_or}
-use Rattle.text.specs.Buffer.{wrote, writes, puts}
-use Rattle.text.proofs.Placing.{next, puts-at, writes-none, length-wrote}
-use Rattle.little_endian.specs.Numbers.{number_bytes, bytes_of}
-use Rattle.little_endian.proofs.Numbers.{bytes-length, bytes-of-length}
+use Prim.Native.Nat.{◌-◌, ◌*◌, ◌≤◌}
+use mathlib.Core.Path.{◌≡◌}
+use lib.ListN.{length}
+use Rattle.text.specs.Buffer.{wrote, writes}
+use Rattle.little_endian.specs.Numbers.{bytes_of}
 use Rattle.program.proofs.writing.put_words.Given as goal
 
 abbrev pub invariant-loop-k : goal.invariant-loop-k
