@@ -1,6 +1,5 @@
 -- `lanes::binary_lanes` meets its contract: each arm fills the lanes with the operation that it is for.
 use mathlib.Core.Path.{refl, ◌∙◌}
-use borrow.Author.Rules.{rules}
 use Rattle.isa.specs.declared.instruction.BinaryOp.TheVariants.{Or, And, Xor, Add, Sub, Mullo, Mulhi, Mulhu, Ashr, Shr, Shl, Fadd, Fsub, Fmul, Fdiv}
 use Rattle.vector.proofs.Halves.{integers, floats}
 use Rattle.vector.proofs.lanes.binary_lanes.Goals as goal

@@ -1,10 +1,8 @@
 -- `lanes::blend` meets its contract: lane j is chosen by bit j of the mask.
 use mathlib.Core.Path.{refl}
-use Prim.Native.Nat.{◌-◌}
 use borrow.Author.Rules.{rules}
-use mathlib.Core.Bool.{cond}
-use Rattle.vector.specs.Lanes.{lane, is_on, blended}
-use Rattle.vector.proofs.Filling.{Filling, start, more, whole}
+use Rattle.vector.specs.Lanes.{blended}
+use Rattle.vector.proofs.Filling.{start, more, whole}
 use Rattle.vector.proofs.lanes.blend.Goals as goal
 
 pub loop-j-preserved : goal.loop-j-preserved

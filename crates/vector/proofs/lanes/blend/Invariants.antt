@@ -1,10 +1,8 @@
 -- `lanes::blend` meets its contract: lane j is chosen by bit j of the mask.
-use mathlib.Core.Path.{refl}
 use Prim.Native.Nat.{◌-◌}
-use borrow.Author.Rules.{rules}
 use mathlib.Core.Bool.{cond}
-use Rattle.vector.specs.Lanes.{lane, is_on, blended}
-use Rattle.vector.proofs.Filling.{Filling, start, more, whole}
+use Rattle.vector.specs.Lanes.{lane, is_on}
+use Rattle.vector.proofs.Filling.{Filling}
 use Rattle.vector.proofs.lanes.blend.Given as goal
 
 abbrev pub invariant-loop-j : goal.invariant-loop-j

@@ -1,10 +1,7 @@
 -- `lanes::each_float` meets its contract: lane j is filled by one operation.
 use mathlib.Core.Path.{refl}
-use Prim.Native.Nat.{◌-◌}
 use borrow.Author.Rules.{rules}
-use Rattle.alu.specs.Binary.{arithmetic}
-use Rattle.vector.specs.Lanes.{lane}
-use Rattle.vector.proofs.Filling.{Filling, start, more, whole}
+use Rattle.vector.proofs.Filling.{start, more, whole}
 use Rattle.vector.proofs.lanes.each_float.Goals as goal
 
 pub loop-j-preserved : goal.loop-j-preserved

@@ -1,10 +1,7 @@
 -- `lanes::each_integer` meets its contract: lane j is filled by one operation.
 use mathlib.Core.Path.{refl}
-use Prim.Native.Nat.{◌-◌}
 use borrow.Author.Rules.{rules}
-use Rattle.alu.specs.Binary.{integer}
-use Rattle.vector.specs.Lanes.{lane}
-use Rattle.vector.proofs.Filling.{Filling, start, more, whole}
+use Rattle.vector.proofs.Filling.{start, more, whole}
 use Rattle.vector.proofs.lanes.each_integer.Goals as goal
 
 pub loop-j-preserved : goal.loop-j-preserved

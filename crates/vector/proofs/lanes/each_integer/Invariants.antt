@@ -1,10 +1,8 @@
 -- `lanes::each_integer` meets its contract: lane j is filled by one operation.
-use mathlib.Core.Path.{refl}
 use Prim.Native.Nat.{◌-◌}
-use borrow.Author.Rules.{rules}
 use Rattle.alu.specs.Binary.{integer}
 use Rattle.vector.specs.Lanes.{lane}
-use Rattle.vector.proofs.Filling.{Filling, start, more, whole}
+use Rattle.vector.proofs.Filling.{Filling}
 use Rattle.vector.proofs.lanes.each_integer.Given as goal
 
 abbrev pub invariant-loop-j : goal.invariant-loop-j

@@ -1,10 +1,7 @@
 -- `lanes::each_integer_unary` meets its contract: lane j is filled by one operation.
 use mathlib.Core.Path.{refl}
-use Prim.Native.Nat.{◌-◌}
 use borrow.Author.Rules.{rules}
-use Rattle.alu.specs.Unary.{integer_unary}
-use Rattle.vector.specs.Lanes.{lane}
-use Rattle.vector.proofs.Filling.{Filling, start, more, whole}
+use Rattle.vector.proofs.Filling.{start, more, whole}
 use Rattle.vector.proofs.lanes.each_integer_unary.Goals as goal
 
 pub loop-j-preserved : goal.loop-j-preserved

@@ -1,9 +1,8 @@
 -- `lanes::shuffle` meets its contract: lane j is read from x, which the loop does not write.
 use mathlib.Core.Path.{refl}
-use Prim.Native.Nat.{◌-◌, ◌%◌}
 use borrow.Author.Rules.{rules}
-use Rattle.vector.specs.Lanes.{lane, shuffled}
-use Rattle.vector.proofs.Filling.{Filling, start, more, whole}
+use Rattle.vector.specs.Lanes.{shuffled}
+use Rattle.vector.proofs.Filling.{start, more, whole}
 use Rattle.vector.proofs.lanes.shuffle.Goals as goal
 
 pub loop-j-preserved : goal.loop-j-preserved

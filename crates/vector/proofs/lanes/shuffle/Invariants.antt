@@ -1,9 +1,7 @@
 -- `lanes::shuffle` meets its contract: lane j is read from x, which the loop does not write.
-use mathlib.Core.Path.{refl}
 use Prim.Native.Nat.{◌-◌, ◌%◌}
-use borrow.Author.Rules.{rules}
-use Rattle.vector.specs.Lanes.{lane, shuffled}
-use Rattle.vector.proofs.Filling.{Filling, start, more, whole}
+use Rattle.vector.specs.Lanes.{lane}
+use Rattle.vector.proofs.Filling.{Filling}
 use Rattle.vector.proofs.lanes.shuffle.Given as goal
 
 abbrev pub invariant-loop-j : goal.invariant-loop-j

@@ -1,6 +1,5 @@
 -- `lanes::unary_lanes` meets its contract: each arm fills the lanes with the operation that it is for.
 use mathlib.Core.Path.{refl, ◌∙◌}
-use borrow.Author.Rules.{rules}
 use Rattle.isa.specs.declared.instruction.UnaryOp.TheVariants.{Clz, Ctz, Move, Sext8, Sext16, IntToFloat, FloatToInt}
 use Rattle.vector.proofs.Halves.{integers-unary, conversions}
 use Rattle.vector.proofs.lanes.unary_lanes.Goals as goal

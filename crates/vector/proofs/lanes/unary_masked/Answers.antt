@@ -1,6 +1,5 @@
 -- `lanes::unary_masked` meets its contract.
 use mathlib.Core.Path.{ap, ◌∙◌}
-use borrow.Author.Rules.{rules}
 use Rattle.vector.specs.Lanes.{blended}
 use Rattle.vector.proofs.lanes.unary_masked.Goals as goal
 
