@@ -9,7 +9,7 @@ use lib.Count.{count_trailing_zeros}
 use lib.Dec.{ltb}
 use Rattle.machine.specs.Claims.{FirstAfterLast, Chooses, ChoosesNone, Turned}
 use Rattle.machine.specs.Machine.{thread_numbers}
-use Rattle.machine.specs.Scheduler.{runs, after, distances, chosen_at, choice, after_choice, choose}
+use Rattle.machine.specs.Scheduler.{runs, after, chosen_at, choice, after_choice, choose}
 use Rattle.machine.specs.Search.{first, mask_of}
 use Rattle.machine.specs.Types.{Machine, Chosen, NoneRunning, Turn}
 use Rattle.machine.proofs.Loops.{from}

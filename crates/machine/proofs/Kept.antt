@@ -6,12 +6,12 @@ use mathlib.Core.Path.{◌≡◌, refl, sym, ap, ◌∙◌}
 use native.Mathlib.Decide.{ℕ_discrete, dec_lt}
 use native.Mathlib.Omega.{arith}
 use borrow.Author.Tests.{le-leb, eqb-true, eq-eqb}
-use lib.ListN.{length, get_or, set, length-set, get_or-eq_default}
+use lib.ListN.{length, get_or, length-set, get_or-eq_default}
 use lib.Seq.{get_or-set_same, get_or-set_other, map-set_same}
 use Rattle.bits.specs.Bit.{bit}
 use Rattle.machine.specs.Claims.{WellFormed, KeepsRecord, Traps, Ends, Issued, RunningEnabled}
 use Rattle.thread_entry.specs.Entry.{zero_thread, with_status}
-use Rattle.machine.specs.Machine.{status_at, with_status_at, turns_of, trap, end}
+use Rattle.machine.specs.Machine.{status_at, with_status_at, turns_of}
 use Rattle.thread_entry.specs.Status.{limits, is_idle, is_running, is_waiting, waits_at, carries_in_range}
 use Rattle.machine.specs.WellFormed.{waiting}
 use Rattle.machine.specs.Scheduler.{runs, with_last}

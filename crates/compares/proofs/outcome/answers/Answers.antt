@@ -1,6 +1,5 @@
 -- `outcome::answers` meets its contract: the row's kind tells floats from whole numbers.
 use mathlib.Core.Path.{sym, ap, ◌∙◌}
-use borrow.Author.Rules.{rules}
 use Rattle.ordering.specs.declared.rows.CompareRow.{CompareRow}
 use Rattle.compares.specs.Outcome.{is_float, outcomes_of}
 use Rattle.compares.proofs.outcome.answers.Goals as goal

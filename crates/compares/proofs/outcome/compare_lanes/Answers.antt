@@ -2,7 +2,6 @@
 use mathlib.Core.Path.{ap, ◌∙◌}
 use Prim.Native.Nat.{ℕ}
 use lib.Bits.{bit_and}
-use borrow.Author.Rules.{rules}
 use Rattle.ordering.specs.Compare.{compare}
 use Rattle.vector.specs.Lanes.{lane}
 use Rattle.compares.specs.Lanes.{compare_lanes}

@@ -1,12 +1,8 @@
 -- `outcome::each_float` meets its contract: bit j is filled by the answer of lane j.
 use mathlib.Core.Path.{ap, ◌∙◌}
-use Prim.Native.Nat.{◌-◌}
 use borrow.Author.Rules.{rules}
-use Rattle.ordering.specs.Order.{order, pick}
-use Rattle.ordering.specs.declared.rows.Kind.TheVariants.{Float}
-use Rattle.vector.specs.Lanes.{lane}
 use Rattle.compares.specs.Outcome.{flags_of}
-use Rattle.compares.proofs.Flags.{Collecting, start, more, whole}
+use Rattle.compares.proofs.Flags.{start, more, whole}
 use Rattle.compares.proofs.outcome.each_float.Goals as goal
 
 pub loop-j-preserved : goal.loop-j-preserved

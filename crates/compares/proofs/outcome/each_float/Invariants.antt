@@ -1,12 +1,9 @@
 -- `outcome::each_float` meets its contract: bit j is filled by the answer of lane j.
-use mathlib.Core.Path.{ap, ◌∙◌}
 use Prim.Native.Nat.{◌-◌}
-use borrow.Author.Rules.{rules}
 use Rattle.ordering.specs.Order.{order, pick}
 use Rattle.ordering.specs.declared.rows.Kind.TheVariants.{Float}
 use Rattle.vector.specs.Lanes.{lane}
-use Rattle.compares.specs.Outcome.{flags_of}
-use Rattle.compares.proofs.Flags.{Collecting, start, more, whole}
+use Rattle.compares.proofs.Flags.{Collecting}
 use Rattle.compares.proofs.outcome.each_float.Given as goal
 
 abbrev pub invariant-loop-j : goal.invariant-loop-j

@@ -1,10 +1,7 @@
 -- `outcome::each_integer` meets its contract: bit j is filled by the answer of lane j.
-use Prim.Native.Nat.{◌-◌}
 use borrow.Author.Rules.{rules}
-use Rattle.ordering.specs.Compare.{compare}
-use Rattle.vector.specs.Lanes.{lane}
 use Rattle.compares.specs.Outcome.{answers_of}
-use Rattle.compares.proofs.Flags.{Collecting, start, more, whole}
+use Rattle.compares.proofs.Flags.{start, more, whole}
 use Rattle.compares.proofs.outcome.each_integer.Goals as goal
 
 pub loop-j-preserved : goal.loop-j-preserved

@@ -1,7 +1,6 @@
 -- `outcome::float_answer` meets its contract: in each arm the outcome is known.
 use mathlib.Core.Path.{sym, ap, ◌∙◌}
 use mathlib.Core.Bool.{Bool}
-use borrow.Author.Rules.{rules}
 use Rattle.ordering.specs.Order.{pick}
 use Rattle.ordering.specs.declared.rows.Ordering.{Ordering}
 use Rattle.compares.proofs.outcome.float_answer.Goals as goal

@@ -1,7 +1,6 @@
 -- `outcome::float_answers` meets its contract: each arm asks the lanes for the columns of its row; the compares of whole numbers don't come here.
 use mathlib.Core.Path.{sym, ap, ◌∙◌}
 use mathlib.Core.Bool.{Bool}
-use borrow.Author.Rules.{rules}
 use Rattle.isa.specs.declared.instruction.CompareOp.{CompareOp}
 use Rattle.ordering.specs.Order.{row_of}
 use Rattle.ordering.proofs.FloatRows.{eq-row, ne-row, gt-row, ge-row, lt-row, le-row}

@@ -1,5 +1,4 @@
 -- `outcome::outcomes_of` meets its contract.
-use borrow.Author.Rules.{rules}
 use Rattle.compares.proofs.outcome.outcomes_of.Goals as goal
 
 pub returns : goal.returns

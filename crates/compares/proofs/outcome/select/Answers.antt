@@ -1,6 +1,5 @@
 -- `outcome::select` meets its contract: two tests tell the three outcomes apart.
 use mathlib.Core.Path.{sym, ◌∙◌}
-use borrow.Author.Rules.{rules}
 use Rattle.compares.proofs.Picked.{picks-below, picks-equal, picks-above}
 use Rattle.compares.proofs.outcome.select.Goals as goal
 

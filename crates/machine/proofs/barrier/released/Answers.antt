@@ -1,5 +1,4 @@
 -- `released` meets its contract.
-use borrow.Author.Rules.{rules}
 use Rattle.machine.proofs.barrier.released.Goals as goal
 
 pub returns-then-waits_at : goal.returns-then-waits_at

@@ -1,7 +1,6 @@
 -- `bytes::read32` meets its contract.
 use native.Mathlib.Nat.{add-zero, add_assoc}
 use native.Mathlib.Omega.{arith}
-use borrow.Author.Rules.{rules}
 use Rattle.little_endian.specs.Numbers.{number_at}
 use Rattle.memory.proofs.bytes.read32.Goals as goal
 

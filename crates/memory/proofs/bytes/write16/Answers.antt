@@ -2,7 +2,6 @@
 use mathlib.Core.Path.{refl}
 use native.Mathlib.Omega.{arith}
 use lib.ListN.{length-set}
-use borrow.Author.Rules.{rules}
 use Rattle.little_endian.specs.Numbers.{with_number}
 use Rattle.memory.proofs.bytes.write16.Goals as goal
 

@@ -2,7 +2,6 @@
 use native.Mathlib.Nat.{add_assoc, div-div-eq-div-mul}
 use native.Mathlib.Omega.{arith}
 use lib.ListN.{length-set}
-use borrow.Author.Rules.{rules}
 use Rattle.little_endian.specs.Numbers.{with_number}
 use Rattle.memory.proofs.bytes.write32.Goals as goal
 

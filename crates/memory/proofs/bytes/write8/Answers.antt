@@ -1,7 +1,6 @@
 -- `bytes::write8` meets its contract.
 use mathlib.Core.Path.{refl}
 use lib.ListN.{length-set}
-use borrow.Author.Rules.{rules}
 use Rattle.little_endian.specs.Numbers.{with_number}
 use Rattle.memory.proofs.bytes.write8.Goals as goal
 

@@ -1,9 +1,8 @@
 -- `lanes::load_lanes` meets its contract: the lanes are those at the place of the definition.
-use mathlib.Core.Path.{◌≡◌, sym, ap, ◌∙◌}
-use borrow.Author.Rules.{rules}
+use mathlib.Core.Path.{sym, ap, ◌∙◌}
 use Rattle.vector.specs.Lanes.{tab}
 use Rattle.memory.specs.Types.{Access}
-use Rattle.memory.specs.Operation.{vector_place, of_lanes, load_lanes}
+use Rattle.memory.specs.Operation.{of_lanes, load_lanes}
 use Rattle.memory.specs.Attempt.{of_place}
 use Rattle.memory.proofs.Places.{within}
 use Rattle.memory.proofs.lanes.load_lanes.Goals as goal

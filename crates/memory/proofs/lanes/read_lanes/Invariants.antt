@@ -1,10 +1,7 @@
 -- `lanes::read_lanes` meets its contract: lane j is filled by the number at its place.
-use mathlib.Core.Path.{refl}
 use Prim.Native.Nat.{◌+◌, ◌-◌, ◌*◌}
-use borrow.Author.Rules.{rules}
-use Rattle.vector.proofs.Filling.{Filling, start, more, whole}
+use Rattle.vector.proofs.Filling.{Filling}
 use Rattle.little_endian.specs.Numbers.{number_at}
-use Rattle.memory.specs.Operation.{lanes_at}
 use Rattle.memory.proofs.lanes.read_lanes.Given as goal
 
 abbrev pub invariant-loop-j : goal.invariant-loop-j

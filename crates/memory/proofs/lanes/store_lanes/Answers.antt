@@ -1,8 +1,7 @@
 -- `lanes::store_lanes` meets its contract: the lanes are stored at the place of the definition.
-use mathlib.Core.Path.{◌≡◌, sym, ap, ◌∙◌}
-use borrow.Author.Rules.{rules}
+use mathlib.Core.Path.{sym, ap, ◌∙◌}
 use Rattle.memory.specs.Types.{Access}
-use Rattle.memory.specs.Operation.{vector_place, store_result, store_lanes}
+use Rattle.memory.specs.Operation.{store_result, store_lanes}
 use Rattle.memory.specs.Attempt.{of_place}
 use Rattle.memory.proofs.Places.{within}
 use Rattle.memory.proofs.lanes.store_lanes.Goals as goal

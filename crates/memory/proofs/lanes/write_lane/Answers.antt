@@ -1,5 +1,4 @@
 -- `lanes::write_lane` meets its contract.
-use borrow.Author.Rules.{rules}
 use Rattle.memory.proofs.lanes.write_lane.Goals as goal
 
 pub returns-then-on : goal.returns-then-on

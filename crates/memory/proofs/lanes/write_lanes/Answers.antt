@@ -1,11 +1,7 @@
 -- `lanes::write_lanes` meets its contract: step j stores lane j, if it is on.
-use mathlib.Core.Bool.{cond}
-use Prim.Native.Nat.{◌+◌, ◌-◌, ◌*◌}
 use borrow.Author.Rules.{rules}
-use Rattle.vector.specs.Lanes.{lane, is_on}
-use Rattle.little_endian.specs.Numbers.{with_number}
 use Rattle.memory.specs.Operation.{with_lanes}
-use Rattle.memory.proofs.Stepping.{Stepping, start, more, whole}
+use Rattle.memory.proofs.Stepping.{start, more, whole}
 use Rattle.memory.proofs.lanes.write_lanes.Goals as goal
 
 pub loop-j-preserved : goal.loop-j-preserved

@@ -1,5 +1,4 @@
 -- `place::lifted` meets its contract.
-use borrow.Author.Rules.{rules}
 use borrow.Author.Tests.{le-leb, lt-leb}
 use Rattle.memory.proofs.place.biased.Goals as goal
 

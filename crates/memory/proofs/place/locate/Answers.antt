@@ -1,9 +1,8 @@
 -- `place::locate` meets its contract: the tests are those of the definition, in its order.
-use mathlib.Core.Path.{◌≡◌, sym, ap, ◌∙◌}
+use mathlib.Core.Path.{sym, ap, ◌∙◌}
 use native.Mathlib.Omega.{arith}
 use borrow.Author.Rules.{rules}
-use borrow.Author.Tests.{not-true, not-false}
-use Rattle.memory.specs.Place.{biased, place}
+use Rattle.memory.specs.Place.{place}
 use Rattle.memory.proofs.Places.{biased-lt, low-enough, when-misaligned, when-outside, when-good}
 use Rattle.memory.proofs.place.locate.Goals as goal
 

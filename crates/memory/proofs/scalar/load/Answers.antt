@@ -1,9 +1,8 @@
 -- `scalar::load` meets its contract: the place is that of the definition, and what is read there too.
-use mathlib.Core.Path.{◌≡◌, ap, ◌∙◌}
+use mathlib.Core.Path.{ap, ◌∙◌}
 use native.Mathlib.Omega.{arith}
-use borrow.Author.Rules.{rules}
 use Rattle.memory.specs.Attempt.{done, of_place}
-use Rattle.memory.specs.Operation.{bytes_loaded, scalar_place, load}
+use Rattle.memory.specs.Operation.{load}
 use Rattle.memory.proofs.Places.{loaded-size, within, found}
 use Rattle.memory.proofs.scalar.load.Goals as goal
 

@@ -1,6 +1,5 @@
 -- `scalar::read` meets its contract: in each arm the operation is known.
 use mathlib.Core.Path.{ap, ◌∙◌}
-use borrow.Author.Rules.{rules}
 use Rattle.alu.specs.Unary.{unary}
 use Rattle.memory.specs.Types.{Sext8, Sext16}
 use Rattle.memory.proofs.scalar.read.Goals as goal

@@ -1,10 +1,9 @@
 -- `scalar::store` meets its contract: the place is that of the definition, and what is written there too.
-use mathlib.Core.Path.{◌≡◌, ap, ◌∙◌}
+use mathlib.Core.Path.{ap, ◌∙◌}
 use native.Mathlib.Omega.{arith}
-use borrow.Author.Rules.{rules}
 use Rattle.memory.specs.Types.{Access}
 use Rattle.memory.specs.Attempt.{of_place}
-use Rattle.memory.specs.Operation.{bytes_stored, scalar_place, store_result, store}
+use Rattle.memory.specs.Operation.{store_result, store}
 use Rattle.memory.proofs.Places.{stored-size, within, found}
 use Rattle.memory.proofs.scalar.store.Goals as goal
 

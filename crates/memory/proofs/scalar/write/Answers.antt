@@ -1,5 +1,4 @@
 -- `scalar::write` meets its contract: in each arm the operation is known.
-use borrow.Author.Rules.{rules}
 use Rattle.memory.proofs.scalar.write.Goals as goal
 
 pub write8-requires : goal.write8-requires

@@ -2,15 +2,14 @@
 use Prim.Native.Nat.{ℕ, zero, suc, ◌<◌}
 use mathlib.Core.Bool.{true, false}
 use mathlib.Core.List.{List, [], ◌∷◌, map}
-use mathlib.Core.Path.{◌≡◌, refl, sym, ap, ◌∙◌}
+use mathlib.Core.Path.{◌≡◌, refl, ap, ◌∙◌}
 use native.Mathlib.Omega.{arith}
-use borrow.Author.Rules.{rules}
 use borrow.Author.Tests.{eq-eqb, ne_eqb}
 use lib.Dec.{eqb}
-use lib.ListN.{length, length-map, set}
+use lib.ListN.{length, set}
 use Rattle.machine.specs.Barrier.{released, release, release_if_met, others_waiting}
 use Rattle.thread_entry.specs.Entry.{with_status}
-use Rattle.machine.specs.Machine.{status_at, with_status_at, trap}
+use Rattle.machine.specs.Machine.{status_at, with_status_at}
 use Rattle.thread_entry.specs.Status.{waits_at}
 use Rattle.machine.specs.Types.{Running, Waiting, Thread, Machine}
 use Rattle.machine.specs.WellFormed.{waiting, disputed}

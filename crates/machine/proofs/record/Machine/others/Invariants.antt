@@ -1,18 +1,7 @@
 -- `others` meets its contract.
-use Prim.Native.Nat.{ℕ, ◌+◌, ◌-◌, ◌<◌, ◌≤◌}
-use mathlib.Core.Bool.{Bool, true, false, not, ◌&&◌}
-use mathlib.Core.Logic.{⊎_elim}
-use mathlib.Core.Path.{◌≡◌, refl, sym, ap, ◌∙◌}
-use native.Mathlib.Omega.{arith}
-use borrow.Author.Rules.{rules}
-use borrow.Author.Tests.{ne_eqb}
-use lib.Dec.{eqb}
-use Rattle.machine.specs.Machine.{status_at}
-use Rattle.thread_entry.specs.Status.{is_waiting}
-use Rattle.machine.specs.Types.{Machine}
-use Rattle.machine.proofs.Loops.{Searching, search-start, search-found, search-on, search-done, Counting, count-start, count-one, count-on, count-done}
-use Rattle.machine.proofs.Meetings.{other_waits, disputes, waits-nowhere, skips}
-use Rattle.machine.proofs.Tests.{never}
+use Prim.Native.Nat.{◌-◌, ◌≤◌}
+use Rattle.machine.proofs.Loops.{Searching, Counting}
+use Rattle.machine.proofs.Meetings.{other_waits, disputes}
 use Rattle.machine.proofs.record.Machine.others.Given as goal
 
 abbrev pub invariant-loop-t : goal.invariant-loop-t

@@ -1,16 +1,10 @@
 -- `running_mask` meets its contract.
-use Prim.Native.Nat.{ℕ, suc, ◌+◌, ◌-◌, ◌*◌, ◌^◌, ◌<◌, ◌≤◌}
-use mathlib.Core.Bool.{Bool, true, false, cond}
-use mathlib.Core.Logic.{⊎_elim}
-use mathlib.Core.Path.{◌≡◌, refl, ap, ◌∙◌}
-use native.Mathlib.Numerals.{add-one}
-use native.Mathlib.Omega.{arith}
-use borrow.Author.Rules.{rules}
-use lib.Pow.{pow_mono}
+use Prim.Native.Nat.{ℕ, ◌-◌, ◌≤◌}
+use mathlib.Core.Bool.{Bool}
+use mathlib.Core.Path.{◌≡◌}
 use Rattle.machine.specs.Scheduler.{runs}
 use Rattle.machine.specs.Search.{mask_of}
 use Rattle.machine.proofs.Loops.{from}
-use Rattle.machine.proofs.Nearest.{mask_of-lt}
 use Rattle.machine.proofs.record.Machine.running_mask.Given as goal
 
 -- the mask of the threads passed, j of them, from the last thread down

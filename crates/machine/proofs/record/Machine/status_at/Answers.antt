@@ -1,7 +1,7 @@
 -- `status_at` meets its contract.
-use mathlib.Core.Path.{◌≡◌, sym, ap, ◌∙◌}
+use mathlib.Core.Path.{◌≡◌, sym, ap}
 use native.Mathlib.Omega.{arith}
-use lib.ListN.{length, length-map, get_or-eq_default}
+use lib.ListN.{length, get_or-eq_default}
 use Rattle.thread_entry.specs.Entry.{zero_thread}
 use Rattle.machine.proofs.record.Machine.status_at.Goals as goal
 

@@ -1,10 +1,8 @@
 -- `with_status` meets its contract.
-use Prim.Native.Nat.{◌-◌, ◌≤◌}
-use mathlib.Core.Path.{◌≡◌, refl, sym, ◌∙◌}
+use mathlib.Core.Path.{◌≡◌, refl}
 use native.Mathlib.Omega.{arith}
-use borrow.Author.Rules.{rules}
-use lib.ListN.{length, length-map}
-use Rattle.machine.proofs.Loops.{Placed, placed-step, placed_end}
+use lib.ListN.{length}
+use Rattle.machine.proofs.Loops.{placed-step, placed_end}
 use Rattle.machine.proofs.record.Machine.with_status.Goals as goal
 
 pub loop-t-init : goal.loop-t-init

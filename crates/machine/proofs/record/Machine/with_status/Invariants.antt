@@ -1,10 +1,6 @@
 -- `with_status` meets its contract.
 use Prim.Native.Nat.{◌-◌, ◌≤◌}
-use mathlib.Core.Path.{◌≡◌, refl, sym, ◌∙◌}
-use native.Mathlib.Omega.{arith}
-use borrow.Author.Rules.{rules}
-use lib.ListN.{length, length-map}
-use Rattle.machine.proofs.Loops.{Placed, placed-step, placed_end}
+use Rattle.machine.proofs.Loops.{Placed}
 use Rattle.machine.proofs.record.Machine.with_status.Given as goal
 
 abbrev pub invariant-loop-t : goal.invariant-loop-t
