@@ -5,9 +5,9 @@ use Rattle.isa.specs.Text.{bytes}
 use Rattle.report.specs.Report.{counted}
 use Rattle.report.proofs.summary.put_counted.Goals as goal
 
-pub shape_of-out-then-issues-eq1 : goal.shape_of-out-then-issues-eq1
+pub returns-then-issues-eq1 : goal.returns-then-issues-eq1
 unfolding counted bytes
-shape_of-out-then-issues-eq1 c = rw c.if-issues-eq1.true c.put_text.ensures
+returns-then-issues-eq1 c = rw c.if-issues-eq1.true c.put_text.ensures
 
 pub returns : goal.returns
 unfolding counted bytes

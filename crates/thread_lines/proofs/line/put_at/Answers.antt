@@ -1,5 +1,4 @@
 -- `put_at` meets its contract: a part behind a part.
-use borrow.Author.Rules.{rules}
 use mathlib.Core.List.{[], ◌∷◌}
 use Rattle.text.specs.Buffer.{wrote}
 use Rattle.text.proofs.Parts.{after}

@@ -1,5 +1,4 @@
 -- `put_carried` meets its contract, by the status.
-use borrow.Author.Rules.{rules}
 use mathlib.Core.List.{[], ◌∷◌}
 use Rattle.isa.specs.Text.{bytes}
 use Rattle.text.specs.Buffer.{wrote}
@@ -10,10 +9,10 @@ use Rattle.thread_lines.proofs.line.put_carried.Goals as goal
 pub returns-in-Trapped : goal.returns-in-Trapped
 unfolding bytes
 returns-in-Trapped c =
-    let s = c.status-1.given in
+    let s = c.in-Trapped in
     let x = c.args in
-    rw s.1
-    (after (wrote x.at x.out.now) (bytes ": " ∷ []) (reason s.0.0 ∷ [])
+    rw s.is
+    (after (wrote x.at x.out.now) (bytes ": " ∷ []) (reason s.number ∷ [])
     c.put_text-at.ensures c.put_reason.ensures)
 
 pub returns-in-Idle : goal.returns-in-Idle

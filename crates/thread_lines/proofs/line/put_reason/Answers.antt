@@ -1,29 +1,28 @@
 -- `put_reason` meets its contract, by the reason.
-use borrow.Author.Rules.{rules}
 use borrow.Author.Tests.{ne_eqb}
 use Rattle.isa.specs.Text.{bytes}
 use Rattle.thread_lines.specs.Lines.{reason}
 use Rattle.thread_lines.proofs.line.put_reason.Goals as goal
 
-pub shape_of-out-then-number-eq1 : goal.shape_of-out-then-number-eq1
+pub returns-then-number-eq1 : goal.returns-then-number-eq1
 unfolding reason bytes
-shape_of-out-then-number-eq1 c = rw c.if-number-eq1.true c.put_text.ensures
+returns-then-number-eq1 c = rw c.if-number-eq1.true c.put_text.ensures
 
-pub shape_of-out-then-number-eq2 : goal.shape_of-out-then-number-eq2
+pub returns-then-number-eq2 : goal.returns-then-number-eq2
 unfolding reason bytes
-shape_of-out-then-number-eq2 c = rw c.if-number-eq2.true c.put_text-then-number-eq2.ensures
+returns-then-number-eq2 c = rw c.if-number-eq2.true c.put_text-then-number-eq2.ensures
 
-pub shape_of-out-then-number-eq3 : goal.shape_of-out-then-number-eq3
+pub returns-then-number-eq3 : goal.returns-then-number-eq3
 unfolding reason bytes
-shape_of-out-then-number-eq3 c = rw c.if-number-eq3.true c.put_text-then-number-eq3.ensures
+returns-then-number-eq3 c = rw c.if-number-eq3.true c.put_text-then-number-eq3.ensures
 
-pub shape_of-out-then-number-eq4 : goal.shape_of-out-then-number-eq4
+pub returns-then-number-eq4 : goal.returns-then-number-eq4
 unfolding reason bytes
-shape_of-out-then-number-eq4 c = rw c.if-number-eq4.true c.put_text-then-number-eq4.ensures
+returns-then-number-eq4 c = rw c.if-number-eq4.true c.put_text-then-number-eq4.ensures
 
-pub shape_of-out-then-number-eq5 : goal.shape_of-out-then-number-eq5
+pub returns-then-number-eq5 : goal.returns-then-number-eq5
 unfolding reason bytes
-shape_of-out-then-number-eq5 c = rw c.if-number-eq5.true c.put_text-then-number-eq5.ensures
+returns-then-number-eq5 c = rw c.if-number-eq5.true c.put_text-then-number-eq5.ensures
 
 pub returns : goal.returns
 unfolding reason bytes

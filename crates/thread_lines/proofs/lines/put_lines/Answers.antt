@@ -1,16 +1,12 @@
 -- `put_lines` meets its contract: after k turns the lines of the first k threads stand in the buffer.
-use Prim.Native.Nat.{◌-◌, ◌≤◌}
 use mathlib.Core.Path.{◌≡◌, refl, ◌∙◌}
 use native.Mathlib.Numerals.{add-one}
 use native.Mathlib.Omega.{arith}
-use borrow.Author.Rules.{rules}
-use lib.ListN.{length}
 use Rattle.thread_lines.specs.Lines.{program_counter}
 use Rattle.text.specs.Buffer.{wrote}
 use Rattle.machine.specs.Machine.{status_at, turns_at}
 use Rattle.text.proofs.Parts.{after}
 use Rattle.thread_lines.specs.Lines.{line_parts, lines_parts}
-use Rattle.text.specs.Parts.{puts_all}
 use Rattle.thread_lines.proofs.lines.put_lines.Goals as goal
 
 pub loop-thread-init : goal.loop-thread-init
@@ -22,13 +18,13 @@ unfolding lines_parts
 loop-thread-preserved c =
     let x = c.args in
     let l = c.loop-thread in
-    let m = x.t3 in
+    let m = x.machine in
     let r = x.registers.now in (
       rw (add-one l.thread)
           (after (wrote x.at x.out.now) (lines_parts m r l.thread) (line_parts l.thread (status_at m l.thread) (program_counter r l.thread) (turns_at m l.thread))
           l.invariant.0 c.put_line-next.ensures),
       omega arith,
-      c.put_line-next.auto.0 ∙ l.invariant.2,
+      c.put_line-next.auto.out ∙ l.invariant.2,
     )
 
 pub returns : goal.returns

@@ -1,15 +1,9 @@
 -- `put_lines` meets its contract: after k turns the lines of the first k threads stand in the buffer.
 use Prim.Native.Nat.{◌-◌, ◌≤◌}
-use mathlib.Core.Path.{◌≡◌, refl, ◌∙◌}
-use native.Mathlib.Numerals.{add-one}
-use native.Mathlib.Omega.{arith}
-use borrow.Author.Rules.{rules}
+use mathlib.Core.Path.{◌≡◌}
 use lib.ListN.{length}
-use Rattle.thread_lines.specs.Lines.{program_counter}
 use Rattle.text.specs.Buffer.{wrote}
-use Rattle.machine.specs.Machine.{status_at, turns_at}
-use Rattle.text.proofs.Parts.{after}
-use Rattle.thread_lines.specs.Lines.{line_parts, lines_parts}
+use Rattle.thread_lines.specs.Lines.{lines_parts}
 use Rattle.text.specs.Parts.{puts_all}
 use Rattle.thread_lines.proofs.lines.put_lines.Given as goal
 

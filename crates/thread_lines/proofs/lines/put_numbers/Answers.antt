@@ -1,15 +1,11 @@
 -- `put_numbers` meets its contract: after k turns the numbers of those of the first k threads that are off stand in the buffer.
-use Prim.Native.Nat.{◌-◌, ◌≤◌}
 use mathlib.Core.Path.{◌≡◌, refl, ◌∙◌}
 use native.Mathlib.Numerals.{add-one}
 use native.Mathlib.Omega.{arith}
-use borrow.Author.Rules.{rules}
-use lib.ListN.{length}
 use Rattle.text.specs.Buffer.{wrote}
 use Rattle.machine.specs.Machine.{status_at}
 use Rattle.text.proofs.Parts.{after}
 use Rattle.thread_lines.specs.Lines.{off_part, off_parts}
-use Rattle.text.specs.Parts.{puts_all}
 use Rattle.thread_lines.proofs.lines.put_numbers.Goals as goal
 
 pub loop-thread-init : goal.loop-thread-init
@@ -21,11 +17,11 @@ unfolding off_parts
 loop-thread-preserved c =
     let x = c.args in
     let l = c.loop-thread in
-    let m = x.t3 in (
+    let m = x.machine in (
       rw (add-one l.thread)
           (after (wrote x.at x.out.now) (off_parts m l.thread) (off_part l.thread (status_at m l.thread)) l.invariant.0 c.put_off-next.ensures),
       omega arith,
-      c.put_off-next.auto.0 ∙ l.invariant.2,
+      c.put_off-next.auto.out ∙ l.invariant.2,
     )
 
 pub returns : goal.returns

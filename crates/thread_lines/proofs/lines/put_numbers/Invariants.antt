@@ -1,14 +1,9 @@
 -- `put_numbers` meets its contract: after k turns the numbers of those of the first k threads that are off stand in the buffer.
 use Prim.Native.Nat.{◌-◌, ◌≤◌}
-use mathlib.Core.Path.{◌≡◌, refl, ◌∙◌}
-use native.Mathlib.Numerals.{add-one}
-use native.Mathlib.Omega.{arith}
-use borrow.Author.Rules.{rules}
+use mathlib.Core.Path.{◌≡◌}
 use lib.ListN.{length}
 use Rattle.text.specs.Buffer.{wrote}
-use Rattle.machine.specs.Machine.{status_at}
-use Rattle.text.proofs.Parts.{after}
-use Rattle.thread_lines.specs.Lines.{off_part, off_parts}
+use Rattle.thread_lines.specs.Lines.{off_parts}
 use Rattle.text.specs.Parts.{puts_all}
 use Rattle.thread_lines.proofs.lines.put_numbers.Given as goal
 

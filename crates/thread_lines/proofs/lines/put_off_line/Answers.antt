@@ -1,5 +1,4 @@
 -- `put_off_line` meets its contract: its parts one behind the other, or none.
-use borrow.Author.Rules.{rules}
 use borrow.Author.Tests.{ne_eqb}
 use mathlib.Core.List.{[], ◌∷◌, ◌++◌}
 use Rattle.isa.specs.Text.{bytes}

@@ -1,5 +1,4 @@
 -- `put_threads` meets its contract: the lines of the threads that are on, and then that of the others.
-use borrow.Author.Rules.{rules}
 use Rattle.text.specs.Buffer.{wrote}
 use Rattle.text.proofs.Parts.{after}
 use Rattle.thread_lines.specs.Lines.{lines_parts, off_line}

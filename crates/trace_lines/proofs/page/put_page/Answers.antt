@@ -20,7 +20,7 @@ loop-put-preserved c =
     let l = c.loop-put in
     let a = c.args in
     let line = c.put_line-at in (
-      rw (add-one l.put) (page-more (wrote 0 a.out.now) a.made a.t3 l.put _ (omega arith) l.invariant.0 line.ensures),
+      rw (add-one l.put) (page-more (wrote 0 a.out.now) a.made a.rows l.put _ (omega arith) l.invariant.0 line.ensures),
       omega arith,
       line.auto.0 ∙ l.invariant.2,
     )
@@ -30,7 +30,7 @@ returns c =
     let l = c.loop-put in
     let a = c.args in
     let e : l.put ≡ a.count = omega arith in
-    l.invariant.0 ∙ ap (λ (k : ℕ). puts_all (wrote 0 a.out.now) (page_parts a.made (take k a.t3))) e
+    l.invariant.0 ∙ ap (λ (k : ℕ). puts_all (wrote 0 a.out.now) (page_parts a.made (take k a.rows))) e
 
 pub shape_of-out : goal.shape_of-out
 shape_of-out c = c.loop-put.invariant.2
