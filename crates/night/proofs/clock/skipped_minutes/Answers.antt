@@ -26,9 +26,8 @@ overflow_sub-result c =
 pub overflow_sub-result-in-Minute : goal.overflow_sub-result-in-Minute
 overflow_sub-result-in-Minute c =
     let a = c.args in
-    let k = c.kept-1.given in
-    let d = in-day a.kept _ a.minute k.1 c.requires in
-    let n = eqb-false k.0.0 a.minute (neither a.marked (eqb k.0.0 a.minute) c.if-marked-last.false).1 in
+    let d = in-day a.kept _ a.minute c.in-Minute.is c.requires in
+    let n = eqb-false c.in-Minute.last a.minute (neither a.marked (eqb c.in-Minute.last a.minute) c.if-marked-last.false).1 in
     omega (arith, n)
 
 -- the first reading

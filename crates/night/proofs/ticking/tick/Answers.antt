@@ -21,8 +21,7 @@ returns-in-Refused c =
     let v = c.tick_verdict-verdict.ensures in
     let a = c.args in
     let s : State = state a.machine a.registers.now a.memory.now in
-    let w = c.verdict-1.given in
-    tick-refused a.program.now s a.kept a.minute a.marked _ _ v.1 v.2 w.0.0 (sym v.0 ∙ ap number_of w.1)
+    tick-refused a.program.now s a.kept a.minute a.marked _ _ v.1 v.2 c.in-Refused.number (sym v.0 ∙ ap number_of c.in-Refused.is)
 
 pub returns-in-Accepted : goal.returns-in-Accepted
 returns-in-Accepted c =

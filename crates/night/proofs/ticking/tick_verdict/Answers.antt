@@ -10,9 +10,8 @@ pub returns-in-Refused : goal.returns-in-Refused
 returns-in-Refused c =
     let a = c.args in
     let s : State = state a.machine a.registers.now a.memory.now in
-    let k = c.clock-1.given in
-    let e = sym c.clock_verdict-clock.ensures ∙ ap number_of k.1 in
-    (clock-number a.program.now s a.kept a.minute k.0.0 e, refl, refl)
+    let e = sym c.clock_verdict-clock.ensures ∙ ap number_of c.in-Refused.is in
+    (clock-number a.program.now s a.kept a.minute c.in-Refused.number e, refl, refl)
 
 pub returns-in-Accepted : goal.returns-in-Accepted
 returns-in-Accepted c =
