@@ -1,11 +1,10 @@
 -- `export` is safe: the text is a part of its buffer.
-use borrow.Author.Rules.{rules}
 use Rattle.intel_hex.proofs.Shown.{text-within}
 use Rattle.text.proofs.Shown.{shown}
 use Rattle.exporter.proofs.export.Goals as goal
 
 pub slice_bounds-text-end : goal.slice_bounds-text-end
-slice_bounds-text-end c = text-within _ _ _ _ _ c.export-answer.ensures c.in-Length.is
+slice_bounds-text-end g c = text-within _ _ _ _ _ c.export-answer.ensures c.in-Length.is
 
 pub slice_bounds-write_stream-end-in-Length : goal.slice_bounds-write_stream-end-in-Length
-slice_bounds-write_stream-end-in-Length c = shown _ _ (text-within _ _ _ _ _ c.export-answer.ensures c.in-Length.is)
+slice_bounds-write_stream-end-in-Length g c = shown _ _ (text-within _ _ _ _ _ c.export-answer.ensures c.in-Length.is)

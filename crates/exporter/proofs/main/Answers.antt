@@ -1,5 +1,4 @@
 -- `main` is safe: the program is a part of its buffer.
-use borrow.Author.Rules.{rules}
 use Rattle.program.proofs.Shown.{words-within}
 use Rattle.text.proofs.Shown.{shown}
 use Rattle.exporter.proofs.main.Goals as goal

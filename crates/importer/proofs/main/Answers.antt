@@ -1,7 +1,6 @@
 -- `main` is safe: what it hands on is a part of its buffer, of which the length is said and not computed.
 use Prim.Native.Nat.{ℕ}
 use mathlib.Core.Path.{sym}
-use borrow.Author.Rules.{rules}
 use lib.ListN.{length-replicate}
 use Rattle.importer.proofs.main.Goals as goal
 

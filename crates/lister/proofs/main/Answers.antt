@@ -1,5 +1,4 @@
 -- `main` is safe: what it writes is a part of the buffer.
-use borrow.Author.Rules.{rules}
 use Rattle.listing.proofs.Shown.{within}
 use Rattle.text.proofs.Shown.{shown}
 use Rattle.lister.proofs.main.Goals as goal

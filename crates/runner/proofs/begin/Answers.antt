@@ -1,5 +1,4 @@
 -- `begin` is safe: an allowed memory has at most 65,536 bytes.
-use borrow.Author.Rules.{rules}
 use lib.ListN.{replicate}
 use Rattle.answer.specs.Refusal.{memory_bytes}
 use mathlib.Core.Path.{sym, ◌∙◌}
@@ -9,10 +8,10 @@ use Rattle.runner.proofs.Memory.{part_small}
 use Rattle.runner.proofs.begin.Goals as goal
 
 pub slice_bounds-memory-end : goal.slice_bounds-memory-end
-slice_bounds-memory-end c = memory-most _ (sym c.bad_memory-refused.ensures ∙ c.if-refused.false)
+slice_bounds-memory-end g c = memory-most _ (sym c.bad_memory-refused.ensures ∙ c.if-refused.false)
 
 pub slice_bounds-start-end : goal.slice_bounds-start-end
-slice_bounds-start-end c = shown _ _ (memory-most _ (sym c.bad_memory-refused.ensures ∙ c.if-refused.false))
+slice_bounds-start-end g c = shown _ _ (memory-most _ (sym c.bad_memory-refused.ensures ∙ c.if-refused.false))
 
 pub start-requires : goal.start-requires
-start-requires c = let n = c.args.settings.memory in let h = memory-most n (sym c.bad_memory-refused.ensures ∙ c.if-refused.false) in part_small n memory_bytes (replicate memory_bytes 0) h h
+start-requires g c = let n = c.args.settings.memory in let h = memory-most n (sym c.bad_memory-refused.ensures ∙ c.if-refused.false) in part_small n memory_bytes (replicate memory_bytes 0) h h

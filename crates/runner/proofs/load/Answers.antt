@@ -1,11 +1,10 @@
 -- `load` is safe: the program is a part of its buffer.
-use borrow.Author.Rules.{rules}
 use Rattle.program.proofs.Shown.{words-within}
 use Rattle.text.proofs.Shown.{shown}
 use Rattle.runner.proofs.load.Goals as goal
 
 pub slice_bounds-program-end : goal.slice_bounds-program-end
-slice_bounds-program-end c = words-within _ _ _ _ c.words-count.ensures
+slice_bounds-program-end g c = words-within _ _ _ _ c.words-count.ensures
 
 pub slice_bounds-go_on-end : goal.slice_bounds-go_on-end
-slice_bounds-go_on-end c = shown _ _ (words-within _ _ _ _ c.words-count.ensures)
+slice_bounds-go_on-end g c = shown _ _ (words-within _ _ _ _ c.words-count.ensures)

@@ -2,7 +2,6 @@
 use Prim.Native.Nat.{ℕ, ◌≤◌}
 use mathlib.Core.List.{List}
 use mathlib.Core.Path.{◌≡◌}
-use borrow.Author.Rules.{rules}
 use lib.ListN.{length}
 use Rattle.report.specs.Report.{looks_line}
 use Rattle.text.proofs.Shown.{shown, text-within}
@@ -13,7 +12,7 @@ within : (looks : ℕ) (l : List ℕ) (r : ℕ) (b : List ℕ) → wrote r b ≡
 within looks l r b e = text-within l (looks_line looks) r b e
 
 pub slice_bounds-text-end : goal.slice_bounds-text-end
-slice_bounds-text-end c = within _ _ _ _ c.write_looks-length.ensures
+slice_bounds-text-end g c = within _ _ _ _ c.write_looks-length.ensures
 
 pub slice_bounds-write_stream-end-2 : goal.slice_bounds-write_stream-end-2
-slice_bounds-write_stream-end-2 c = shown _ _ (within _ _ _ _ c.write_looks-length.ensures)
+slice_bounds-write_stream-end-2 g c = shown _ _ (within _ _ _ _ c.write_looks-length.ensures)

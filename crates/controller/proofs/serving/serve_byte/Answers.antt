@@ -1,11 +1,10 @@
 -- `serving::serve_byte` is safe: what it prints is a part of the buffer.
 use Rattle.minute_lines.proofs.Shown.{step-within}
 use Rattle.text.proofs.Shown.{shown}
-use borrow.Author.Rules.{rules}
 use Rattle.controller.proofs.serving.serve_byte.Goals as goal
 
 pub slice_bounds-out-end : goal.slice_bounds-out-end
-slice_bounds-out-end c = step-within _ _ _ _ _ _ c.take_byte-step.ensures
+slice_bounds-out-end g c = step-within _ _ _ _ _ _ c.take_byte-step.ensures
 
 pub slice_bounds-print-end : goal.slice_bounds-print-end
-slice_bounds-print-end c = shown _ _ (step-within _ _ _ _ _ _ c.take_byte-step.ensures)
+slice_bounds-print-end g c = shown _ _ (step-within _ _ _ _ _ _ c.take_byte-step.ensures)

@@ -1,11 +1,10 @@
 -- `going_on::print_page` is safe: what it prints is a part of the buffer.
-use borrow.Author.Rules.{rules}
 use Rattle.text.proofs.Shown.{shown}
 use Rattle.trace_lines.proofs.Shown.{within}
 use Rattle.runner.proofs.going_on.print_page.Goals as goal
 
 pub slice_bounds-text-end : goal.slice_bounds-text-end
-slice_bounds-text-end c = within _ _ _ _ _ c.write_page-length.ensures
+slice_bounds-text-end g c = within _ _ _ _ _ c.write_page-length.ensures
 
 pub slice_bounds-write_stream-end-2 : goal.slice_bounds-write_stream-end-2
-slice_bounds-write_stream-end-2 c = shown _ _ (within _ _ _ _ _ c.write_page-length.ensures)
+slice_bounds-write_stream-end-2 g c = shown _ _ (within _ _ _ _ _ c.write_page-length.ensures)
