@@ -59,8 +59,7 @@ fn write_in(
 }
 
 // Writes a machine's image.
-#[unsafe(no_mangle)]
-pub extern "C" fn korvammel_image_write(
+pub fn korvammel_image_write(
     registers: &[u32],
     memory: &[u8],
     bytes: &[u8; RECORD_LENGTH],
@@ -72,8 +71,7 @@ pub extern "C" fn korvammel_image_write(
 }
 
 // Writes a machine's image in the old form; any `drop` but 0 allows its counts of turns to be dropped.
-#[unsafe(no_mangle)]
-pub extern "C" fn korvammel_image_write_old(
+pub fn korvammel_image_write_old(
     registers: &[u32],
     memory: &[u8],
     bytes: &[u8; RECORD_LENGTH],
@@ -86,8 +84,7 @@ pub extern "C" fn korvammel_image_write_old(
 }
 
 // Reads an image into registers, memory and machine record.
-#[unsafe(no_mangle)]
-pub extern "C" fn korvammel_image_read(
+pub fn korvammel_image_read(
     image: &[u8],
     registers: &mut [u32],
     memory: &mut [u8],

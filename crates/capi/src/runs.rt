@@ -7,12 +7,7 @@ use answer::{Verdict, first_refusal, lengths_verdict};
 use image::RECORD_LENGTH;
 
 // Starts the threads of a mask, and writes the machine record.
-#[unsafe(no_mangle)]
-pub extern "C" fn korvammel_start(
-    mask: u32,
-    registers: &mut [u32],
-    bytes: &mut [u8; RECORD_LENGTH],
-) -> u32
+pub fn korvammel_start(mask: u32, registers: &mut [u32], bytes: &mut [u8; RECORD_LENGTH]) -> u32
     ensures { begun result registers.new bytes.new ≡ start_call mask registers.old }
 {
     let start = interpreter::start(mask, registers);
@@ -23,8 +18,7 @@ pub extern "C" fn korvammel_start(
 }
 
 // Runs a program, from the machine record and into it.
-#[unsafe(no_mangle)]
-pub extern "C" fn korvammel_run(
+pub fn korvammel_run(
     program: &[u32],
     registers: &mut [u32],
     memory: &mut [u8],

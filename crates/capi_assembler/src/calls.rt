@@ -5,12 +5,7 @@ ghost use Rattle.capi_assembler.specs.Calls.{took, assemble_call};
 use assembler::Assembly;
 
 // Assembles a source; the result is its words, and the line that is refused.
-#[unsafe(no_mangle)]
-pub extern "C" fn korvammel_assemble(
-    source: &[u8],
-    program: &mut [u32],
-    res: &mut [usize; 2],
-) -> u32
+pub fn korvammel_assemble(source: &[u8], program: &mut [u32], res: &mut [usize; 2]) -> u32
     ensures { took result res.new program.new ≡ assemble_call source.now program.old }
 {
     let answer = assembler::assemble(source, program);

@@ -54,8 +54,7 @@ fn take_minute(
 }
 
 // One local minute; any `marked` but 0 marks the autumn fall-back.
-#[unsafe(no_mangle)]
-pub extern "C" fn korvammel_night_minute(
+pub fn korvammel_night_minute(
     program: &[u32],
     registers: &mut [u32],
     memory: &mut [u8],

@@ -24,8 +24,7 @@ fn ending(answer: RunAnswer) -> u32
 }
 
 // Runs a program, and puts a row for each issue.
-#[unsafe(no_mangle)]
-pub extern "C" fn korvammel_run_traced(
+pub fn korvammel_run_traced(
     program: &[u32],
     registers: &mut [u32],
     memory: &mut [u8],

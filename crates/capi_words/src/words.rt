@@ -28,8 +28,7 @@ fn numbers_in(list: &[u32; 6]) -> Numbers
 }
 
 // Reads a word into an instruction.
-#[unsafe(no_mangle)]
-pub extern "C" fn korvammel_read_word(word: u32, instruction: &mut [u32; 6]) -> u32
+pub fn korvammel_read_word(word: u32, instruction: &mut [u32; 6]) -> u32
     ensures { left result instruction.new ≡ read_word word instruction.old }
 {
     let reading = isa::read_word(word);
@@ -44,8 +43,7 @@ pub extern "C" fn korvammel_read_word(word: u32, instruction: &mut [u32; 6]) -> 
 }
 
 // Writes an instruction into a word.
-#[unsafe(no_mangle)]
-pub extern "C" fn korvammel_write_word(instruction: &[u32; 6], word: &mut u32) -> u32
+pub fn korvammel_write_word(instruction: &[u32; 6], word: &mut u32) -> u32
     ensures { left result word.new ≡ write_word instruction.now word.old }
 {
     let found = fields::find(numbers_in(instruction));
@@ -62,8 +60,7 @@ pub extern "C" fn korvammel_write_word(instruction: &[u32; 6], word: &mut u32) -
 }
 
 // Puts an instruction's name, and answers its length. No instruction that has a word has a longer name than eight bytes.
-#[unsafe(no_mangle)]
-pub extern "C" fn korvammel_name(instruction: &[u32; 6], name: &mut [u8; 8]) -> usize
+pub fn korvammel_name(instruction: &[u32; 6], name: &mut [u8; 8]) -> usize
     ensures { left result name.new ≡ name_call instruction.now name.old }
 {
     let found = fields::find(numbers_in(instruction));

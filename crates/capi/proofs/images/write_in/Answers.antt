@@ -13,11 +13,10 @@ use Rattle.capi.proofs.images.write_in.Goals as goal
 pub returns-in-Refused : goal.returns-in-Refused
 returns-in-Refused c =
     let a = c.args in
-    let v = c.verdict-1.given in
     let fixed = ap (λ n. first_that_applies (record_checks n (length a.registers.now) (length a.memory.now) (length a.buffer.now) a.bytes.now)) c.fixed_part.ensures in
     ap (λ n. left n a.buffer.now) c.wide.ensures
-    ∙ refused-before a.form a.dropping a.registers.now a.memory.now a.bytes.now a.buffer.now v.0.0
-    (sym fixed ∙ (sym c.judge-judgement.ensures.0 ∙ ap number_of v.1))
+    ∙ refused-before a.form a.dropping a.registers.now a.memory.now a.bytes.now a.buffer.now c.in-Refused.number
+    (sym fixed ∙ (sym c.judge-judgement.ensures.0 ∙ ap number_of c.in-Refused.is))
 
 pub returns-in-Accepted : goal.returns-in-Accepted
 returns-in-Accepted c =

@@ -1,7 +1,6 @@
 -- `korvammel_assemble` meets its contract: by what the assembler answered.
 use Rattle.capi_assembler.specs.Calls.{assemble_call}
 use Rattle.capi_assembler.proofs.Handed.{handed-words, handed-refusal}
-use borrow.Author.Rules.{rules}
 use Rattle.capi_assembler.proofs.calls.korvammel_assemble.Goals as goal
 
 pub returns-in-Assembled : goal.returns-in-Assembled

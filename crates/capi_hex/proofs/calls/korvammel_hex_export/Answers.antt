@@ -1,7 +1,6 @@
 -- `korvammel_hex_export` meets its contract: by what export answered.
 use Rattle.capi_hex.specs.Calls.{export_call}
 use Rattle.capi_hex.proofs.Handed.{export-length, export-refused}
-use borrow.Author.Rules.{rules}
 use Rattle.capi_hex.proofs.calls.korvammel_hex_export.Goals as goal
 
 pub returns-in-Length : goal.returns-in-Length

@@ -1,7 +1,6 @@
 -- `korvammel_hex_import` meets its contract: by what import answered.
 use Rattle.capi_hex.specs.Calls.{import_call}
 use Rattle.capi_hex.proofs.Handed.{import-words, import-refused}
-use borrow.Author.Rules.{rules}
 use Rattle.capi_hex.proofs.calls.korvammel_hex_import.Goals as goal
 
 pub returns-in-Words : goal.returns-in-Words

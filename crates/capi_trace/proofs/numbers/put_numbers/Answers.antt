@@ -19,7 +19,7 @@ loop-i-preserved c =
     let l = c.loop-i in
     let a = c.args in
     let put = c.put_number in (
-      rw (add-one l.i) (put.ensures ∙ put-more a.numbers.now a.place a.t3 l.i l.numbers l.invariant.0 (omega arith)),
+      rw (add-one l.i) (put.ensures ∙ put-more a.numbers.now a.place a.row l.i l.numbers l.invariant.0 (omega arith)),
       omega arith,
       put.auto.0 ∙ l.invariant.2,
     )
@@ -27,7 +27,7 @@ loop-i-preserved c =
 pub returns : goal.returns
 returns c =
     let a = c.args in
-    let all : take c.loop-i.i a.t3 ≡ a.t3 = take_all c.loop-i.i a.t3 (omega arith) in
+    let all : take c.loop-i.i a.row ≡ a.row = take_all c.loop-i.i a.row (omega arith) in
     c.loop-i.invariant.0 ∙ ap (put_all a.numbers.now a.place) all
 
 pub shape_of-numbers : goal.shape_of-numbers

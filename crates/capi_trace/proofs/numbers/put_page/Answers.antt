@@ -18,7 +18,7 @@ loop-put-preserved c =
     let l = c.loop-put in
     let a = c.args in
     let put = c.put_row in (
-      rw (add-one l.put) (put.ensures ∙ put-row-more a.numbers.now a.at a.t3 l.put _ l.numbers l.invariant.0
+      rw (add-one l.put) (put.ensures ∙ put-row-more a.numbers.now a.at a.rows l.put _ l.numbers l.invariant.0
           (omega arith)),
       omega arith,
       put.auto.0 ∙ l.invariant.2,
@@ -29,7 +29,7 @@ returns c =
     let l = c.loop-put in
     let a = c.args in
     let e : l.put ≡ a.count = omega arith in
-    l.invariant.0 ∙ ap (λ k. put_rows a.numbers.now a.at (take k a.t3)) e
+    l.invariant.0 ∙ ap (λ k. put_rows a.numbers.now a.at (take k a.rows)) e
 
 pub shape_of-numbers : goal.shape_of-numbers
 shape_of-numbers c = c.loop-put.invariant.2

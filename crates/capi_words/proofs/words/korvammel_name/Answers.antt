@@ -11,7 +11,6 @@ use Rattle.fields.specs.Claims.{HasWord}
 use Rattle.fields.specs.Find.{word_for, found}
 use Rattle.answer.specs.Left.{left}
 use Rattle.capi_words.specs.Words.{name_call}
-use borrow.Author.Rules.{rules}
 use Rattle.capi_words.proofs.words.korvammel_name.Goals as goal
 
 -- the first eight bytes of a name, which hold it whole
@@ -34,10 +33,10 @@ pub returns-in-Word : goal.returns-in-Word
 unfolding name_call HasWord
 returns-in-Word c =
     let e = c.find-found.ensures ∙ ap word_for c.numbers_in.ensures in
-    let g = c.found-1.given in
-    let i = g.0.1.0 in
-    let h = fits_word i g.0.0 ((has_word _ g.0.0 i).0 (sym e ∙ ap found g.1)).1 in
-    rw (← e, c.in-Word.is) (rw c.name_of-spelled.ensures (ap (left (length (name_of i))) (first-eight (name_of i) h)))
+    let g = c.in-Word in
+    let i = g.i in
+    let h = fits_word i g.word ((has_word _ g.word i).0 (sym e ∙ ap found g.is)).1 in
+    rw (← e, g.is) (rw c.name_of-spelled.ensures (ap (left (length (name_of i))) (first-eight (name_of i) h)))
 
 pub returns-in-NoWord : goal.returns-in-NoWord
 unfolding name_call

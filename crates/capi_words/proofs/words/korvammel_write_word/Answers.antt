@@ -2,7 +2,6 @@
 use mathlib.Core.Path.{ap, ◌∙◌}
 use Rattle.fields.specs.Find.{word_for}
 use Rattle.capi_words.specs.Words.{write_word}
-use borrow.Author.Rules.{rules}
 use Rattle.capi_words.proofs.words.korvammel_write_word.Goals as goal
 
 pub returns-in-Word : goal.returns-in-Word
