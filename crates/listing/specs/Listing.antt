@@ -1,5 +1,5 @@
 -- What the lister prints (document 01, "Figures to check", Lister).
-use Rattle.std.specs.Prelude.{ℕ, zero, suc, ◌*◌, ◌/◌, not, cond, List, [], ◌++◌, eqb, length}
+use Rattle.std.specs.Prelude.{ℕ, zero, suc, ◌*◌, ◌/◌, cond, List, [], ◌++◌, eqb, length}
 use Rattle.answer.specs.Answer.{Answer, given, refused, undefined}
 use Rattle.little_endian.specs.Numbers.{number_at}
 use Rattle.names.specs.Name.{name_of}

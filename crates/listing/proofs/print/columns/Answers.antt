@@ -1,5 +1,4 @@
 -- `columns` meets its contract: the digits are those of the two numbers.
-use borrow.Author.Rules.{rules}
 use Rattle.isa.specs.Text.{bytes}
 use Rattle.listing.specs.Listing.{columns_of}
 use Rattle.listing.proofs.print.columns.Goals as goal

@@ -1,22 +1,20 @@
 -- `list` meets its contract: after k turns the lines of the first k words stand behind the header.
-use Prim.Native.Nat.{◌+◌, ◌*◌, ◌-◌, ◌/◌, ◌≤◌}
+use Prim.Native.Nat.{◌+◌, ◌*◌, ◌/◌, ◌≤◌}
 use mathlib.Core.Path.{◌≡◌, sym, ◌∙◌}
 use native.Mathlib.Numerals.{add-one}
 use native.Mathlib.Omega.{arith}
-use borrow.Author.Rules.{rules}
 use lib.ListN.{length}
 use Rattle.isa.specs.Text.{bytes}
 use Rattle.listing.proofs.Lengths.{length-header, length-lines}
 use Rattle.text.proofs.Placing.{end_is, next, puts-at, writes-none}
 use Rattle.program.proofs.Sizes.{whole}
-use Rattle.text.specs.Buffer.{wrote, writes}
 use Rattle.listing.specs.Listing.{header, line, lines, listing}
 use Rattle.little_endian.specs.Numbers.{number_at}
 use Rattle.listing.proofs.print.list.Goals as goal
 
 pub returns-then-refused : goal.returns-then-refused
 unfolding listing bytes
-returns-then-refused c = rw (sym c.bad_bytes-refused.ensures ∙ c.if-refused.true) (c.put_text.ensures ∙ puts-at c.args.out.now 0 (bytes "refused 1\n") (omega (arith, c.put_text-arg-1.given.0.1)))
+returns-then-refused c = rw (sym c.bad_bytes-refused.ensures ∙ c.if-refused.true) (c.put_text.ensures ∙ puts-at c.args.out.now 0 (bytes "refused 1\n") (omega arith))
 
 pub loop-k-init : goal.loop-k-init
 unfolding lines
@@ -28,7 +26,7 @@ put_line-at-requires c =
     let l = c.loop-k in
     let w = whole (length s.input.now) (sym c.bad_bytes-refused.ensures ∙ c.if-refused.false) in
     let e = end_is c.put_header-at.ensures in
-    omega (arith, end_is l.invariant.0, length-lines s.input.now l.k, length-header (length s.input.now / 4) (omega arith), c.put_line-arg-1.given.0.1)
+    omega (arith, end_is l.invariant.0, length-lines s.input.now l.k, length-header (length s.input.now / 4) (omega arith))
 
 pub loop-k-preserved : goal.loop-k-preserved
 unfolding lines
@@ -38,9 +36,9 @@ loop-k-preserved c =
     let h = c.put_header-at in
     let w = whole (length s.input.now) (sym c.bad_bytes-refused.ensures ∙ c.if-refused.false) in
     let e = end_is h.ensures in
-    let room : h.result + length (lines s.input.now l.k) ≤ length h.new.0 =
-    omega (arith, length-lines s.input.now l.k, length-header (length s.input.now / 4) (omega arith), h.auto.0, c.put_header-arg-1.given.0.1) in (
-      rw (add-one l.k) (next h.new.0 h.result (lines s.input.now l.k) room (line (4 * l.k) (number_at 4 s.input.now (4 * l.k)))
+    let room : h.result + length (lines s.input.now l.k) ≤ length h.new.out =
+    omega (arith, length-lines s.input.now l.k, length-header (length s.input.now / 4) (omega arith), h.auto.out) in (
+      rw (add-one l.k) (next h.new.out h.result (lines s.input.now l.k) room (line (4 * l.k) (number_at 4 s.input.now (4 * l.k)))
           l.at l.out c.put_line-at.result c.put_line-at.new.out l.invariant.0 (rw c.word_at.ensures at c.put_line-at.ensures)),
       omega arith,
     )
@@ -55,14 +53,14 @@ returns c =
     let k : l.k ≡ length s.input.now / 4 = omega arith in
     rw (sym c.bad_bytes-refused.ensures ∙ c.if-refused.false)
     (next s.out.now 0 (header (length s.input.now / 4))
-    (omega (arith, length-header (length s.input.now / 4) (omega arith), c.put_header-arg-1.given.0.1))
-    (lines s.input.now (length s.input.now / 4)) h.result h.new.0 l.at l.out h.ensures (rw k at l.invariant.0))
+    (omega (arith, length-header (length s.input.now / 4) (omega arith)))
+    (lines s.input.now (length s.input.now / 4)) h.result h.new.out l.at l.out h.ensures (rw k at l.invariant.0))
 
 pub overflow_cast-count : goal.overflow_cast-count
 overflow_cast-count c = let w = whole (length c.args.input.now) (sym c.bad_bytes-refused.ensures ∙ c.if-refused.false) in omega arith
 
 pub put_header-at-requires : goal.put_header-at-requires
-put_header-at-requires c = let w = whole (length c.args.input.now) (sym c.bad_bytes-refused.ensures ∙ c.if-refused.false) in (omega (arith, c.put_header-arg-1.given.0.1), omega arith)
+put_header-at-requires c = let w = whole (length c.args.input.now) (sym c.bad_bytes-refused.ensures ∙ c.if-refused.false) in (omega (arith), omega arith)
 
 pub overflow_mul-k : goal.overflow_mul-k
 overflow_mul-k c = let w = whole (length c.args.input.now) (sym c.bad_bytes-refused.ensures ∙ c.if-refused.false) in omega arith

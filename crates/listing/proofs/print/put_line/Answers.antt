@@ -1,6 +1,5 @@
 -- `put_line` meets its contract: by what the word is read as.
 use native.Mathlib.Omega.{arith}
-use borrow.Author.Rules.{rules}
 use Rattle.names.proofs.Names.{fits}
 use Rattle.names.specs.Name.{name_of}
 use Rattle.isa.specs.Text.{bytes}
