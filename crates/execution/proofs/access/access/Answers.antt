@@ -1,5 +1,4 @@
 -- `access::access` meets its contract: by the arm that was taken.
-use Rattle.std.proofs.Common.{rules}
 use Rattle.execution.proofs.access.access.Goals as goal
 
 pub returns-in-Load : goal.returns-in-Load

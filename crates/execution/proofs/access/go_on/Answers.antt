@@ -1,5 +1,4 @@
 -- `access::go_on` meets its contract: by what the access came to.
-use Rattle.std.proofs.Common.{rules}
 use Rattle.execution.proofs.access.go_on.Goals as goal
 
 pub returns-in-Done : goal.returns-in-Done

@@ -1,6 +1,5 @@
 -- `access::load` meets its contract: by what the load came to.
 use Rattle.execution.specs.Access.{load_into}
-use Rattle.std.proofs.Common.{rules}
 use Rattle.execution.proofs.access.load.Goals as goal
 
 pub returns-in-Value : goal.returns-in-Value

@@ -1,6 +1,5 @@
 -- `access::load_lanes` meets its contract: by what the load came to.
 use Rattle.execution.specs.Access.{load_lanes_into}
-use Rattle.std.proofs.Common.{rules}
 use Rattle.execution.proofs.access.load_lanes.Goals as goal
 
 pub returns-in-Done : goal.returns-in-Done

@@ -1,6 +1,5 @@
 -- `access::store` meets its contract.
 use Rattle.execution.specs.Access.{store_from}
-use Rattle.std.proofs.Common.{rules}
 use Rattle.execution.proofs.access.store.Goals as goal
 
 pub returns : goal.returns

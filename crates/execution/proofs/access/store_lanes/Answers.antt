@@ -1,6 +1,5 @@
 -- `access::store_lanes` meets its contract.
 use Rattle.execution.specs.Access.{store_lanes_from}
-use Rattle.std.proofs.Common.{rules}
 use Rattle.execution.proofs.access.store_lanes.Goals as goal
 
 pub returns : goal.returns

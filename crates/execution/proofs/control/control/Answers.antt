@@ -1,5 +1,4 @@
 -- `control::control` meets its contract: by the arm that was taken.
-use Rattle.std.proofs.Common.{rules}
 use Rattle.execution.proofs.control.control.Goals as goal
 
 pub returns-in-Barrier : goal.returns-in-Barrier

@@ -1,5 +1,5 @@
 -- `control::control_register` meets its contract: by the arm that was taken.
-use Rattle.std.proofs.Common.{rules, ne_eqb}
+use Rattle.std.proofs.Common.{ne_eqb}
 use Rattle.execution.specs.Control.{control_register}
 use Rattle.execution.proofs.control.control_register.Goals as goal
 

@@ -1,6 +1,5 @@
 -- `control::read_control` meets its contract: by whether there is such a register.
 use Rattle.execution.specs.Control.{read_control}
-use Rattle.std.proofs.Common.{rules}
 use Rattle.execution.proofs.control.read_control.Goals as goal
 
 pub returns-in-Known : goal.returns-in-Known

@@ -1,6 +1,5 @@
 -- `immediate::move_immediate` meets its contract: by the flag.
 use Rattle.execution.specs.Immediate.{move_immediate}
-use Rattle.std.proofs.Common.{rules}
 use Rattle.execution.proofs.immediate.move_immediate.Goals as goal
 
 pub returns-then-flag : goal.returns-then-flag

@@ -1,5 +1,5 @@
 -- `immediate::replace` meets its contract: by the arm that was taken.
-use Rattle.std.proofs.Common.{arith, rules}
+use Rattle.std.proofs.Common.{arith}
 use Rattle.execution.proofs.immediate.replace.Goals as goal
 
 pub overflow_add-result : goal.overflow_add-result

@@ -1,8 +1,7 @@
 -- `immediate::replace_lanes` meets its contract: lane j is filled by one replacement.
-use Rattle.std.proofs.Common.{◌-◌, refl, rules}
-use Rattle.vector.proofs.Filling.{Filling, start, more, whole}
-use Rattle.vector.specs.Lanes.{lane}
-use Rattle.execution.specs.Immediate.{replaced, replaced_lanes}
+use Rattle.std.proofs.Common.{refl, rules}
+use Rattle.vector.proofs.Filling.{start, more, whole}
+use Rattle.execution.specs.Immediate.{replaced_lanes}
 use Rattle.execution.proofs.immediate.replace_lanes.Goals as goal
 
 pub loop-j-preserved : goal.loop-j-preserved

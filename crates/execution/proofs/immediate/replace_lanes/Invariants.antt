@@ -1,8 +1,8 @@
 -- `immediate::replace_lanes` meets its contract: lane j is filled by one replacement.
-use Rattle.std.proofs.Common.{◌-◌, refl, rules}
-use Rattle.vector.proofs.Filling.{Filling, start, more, whole}
+use Rattle.std.proofs.Common.{◌-◌}
+use Rattle.vector.proofs.Filling.{Filling}
 use Rattle.vector.specs.Lanes.{lane}
-use Rattle.execution.specs.Immediate.{replaced, replaced_lanes}
+use Rattle.execution.specs.Immediate.{replaced}
 use Rattle.execution.proofs.immediate.replace_lanes.Given as goal
 
 abbrev pub invariant-loop-j : goal.invariant-loop-j

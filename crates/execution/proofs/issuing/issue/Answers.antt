@@ -1,5 +1,5 @@
 -- `issuing::issue` meets its contract: by the test of the lengths and the thread.
-use Rattle.std.proofs.Common.{sym, ◌∙◌, rules}
+use Rattle.std.proofs.Common.{sym, ◌∙◌}
 use Rattle.execution.proofs.Fitting.{fitting}
 use Rattle.execution.specs.Issue.{issue, issue_sets_status}
 use Rattle.execution.proofs.issuing.issue.Goals as goal

@@ -1,6 +1,5 @@
 -- `issuing::perform` meets its contract: by the test of the program counter, then by the effect of the word.
 use Rattle.std.proofs.Common.{length, sym, ◌∙◌, arith, rules}
-use borrow.Author.Tests.{not-true, not-false}
 use Rattle.machine.specs.State.{state}
 use Rattle.execution.proofs.Issues.{performs-outside, performs-word}
 use Rattle.execution.proofs.Targets.{before-end}

@@ -1,5 +1,5 @@
 -- `issuing::reach_barrier` meets its contract: by whether the meeting traps.
-use Rattle.std.proofs.Common.{◌≡◌, ◌%◌, ap, ◌∙◌, arith, rules}
+use Rattle.std.proofs.Common.{◌≡◌, ◌%◌, ap, ◌∙◌, arith}
 use Rattle.machine.specs.Barrier.{reach_barrier}
 use Rattle.execution.proofs.issuing.reach_barrier.Goals as goal
 

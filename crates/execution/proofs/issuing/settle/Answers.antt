@@ -1,5 +1,4 @@
 -- `issuing::settle` meets its contract: by the effect of the instruction.
-use Rattle.std.proofs.Common.{rules}
 use Rattle.execution.proofs.issuing.settle.Goals as goal
 
 pub returns-in-Stays : goal.returns-in-Stays

@@ -1,5 +1,4 @@
 -- `jump::branch` meets its contract: by whether it is taken.
-use Rattle.std.proofs.Common.{rules}
 use Rattle.execution.proofs.jump.branch.Goals as goal
 
 pub returns-then-taken : goal.returns-then-taken

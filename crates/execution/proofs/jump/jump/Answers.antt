@@ -1,5 +1,4 @@
 -- `jump::jump` meets its contract: by the arm that was taken.
-use Rattle.std.proofs.Common.{rules}
 use Rattle.execution.proofs.jump.jump.Goals as goal
 
 pub returns-in-Jmp : goal.returns-in-Jmp

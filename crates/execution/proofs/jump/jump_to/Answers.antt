@@ -1,6 +1,5 @@
 -- `jump::jump_to` meets its contract: by the test of the target.
 use Rattle.execution.specs.Jump.{jump_to}
-use Rattle.std.proofs.Common.{rules}
 use Rattle.execution.proofs.jump.jump_to.Goals as goal
 
 pub returns-then-in_program : goal.returns-then-in_program

@@ -1,5 +1,4 @@
 -- `operand::lanes` meets its contract: by the kind of operand.
-use Rattle.std.proofs.Common.{rules}
 use Rattle.execution.proofs.operand.lanes.Goals as goal
 
 pub vector-requires : goal.vector-requires

@@ -1,7 +1,6 @@
 -- `operation::binary` meets its contract: by the destination's flag.
 use Rattle.execution.specs.Operation.{binary_into}
 use Rattle.execution.specs.Registers.{with_lanes_on}
-use Rattle.std.proofs.Common.{rules}
 use Rattle.execution.proofs.operation.binary.Goals as goal
 
 pub returns-then-flag : goal.returns-then-flag

@@ -1,6 +1,5 @@
 -- `operation::compare` meets its contract: by whether an operand is a vector.
 use Rattle.execution.specs.Operation.{compare_into}
-use Rattle.std.proofs.Common.{rules}
 use Rattle.execution.proofs.operation.compare.Goals as goal
 
 pub returns-then-is_vector : goal.returns-then-is_vector

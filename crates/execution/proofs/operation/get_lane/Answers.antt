@@ -1,6 +1,5 @@
 -- `operation::get_lane` meets its contract.
 use Rattle.execution.specs.Operation.{get_lane_into}
-use Rattle.std.proofs.Common.{rules}
 use Rattle.execution.proofs.operation.get_lane.Goals as goal
 
 pub returns : goal.returns

@@ -1,5 +1,4 @@
 -- `operation::operate` meets its contract: by the arm that was taken.
-use Rattle.std.proofs.Common.{rules}
 use Rattle.execution.proofs.operation.operate.Goals as goal
 
 pub returns-in-Binary : goal.returns-in-Binary

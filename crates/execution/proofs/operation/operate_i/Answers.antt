@@ -1,5 +1,4 @@
 -- `operation::operate_i` meets its contract.
-use Rattle.std.proofs.Common.{rules}
 use Rattle.execution.specs.Operation.{operate_i}
 use Rattle.execution.proofs.operation.operate_i.Goals as goal
 

@@ -1,5 +1,4 @@
 -- `operation::operate_r` meets its contract.
-use Rattle.std.proofs.Common.{rules}
 use Rattle.execution.specs.Operation.{operate_r}
 use Rattle.execution.proofs.operation.operate_r.Goals as goal
 

@@ -1,6 +1,5 @@
 -- `operation::shuffle` meets its contract.
 use Rattle.execution.specs.Operation.{shuffle_into}
-use Rattle.std.proofs.Common.{rules}
 use Rattle.execution.proofs.operation.shuffle.Goals as goal
 
 pub returns : goal.returns

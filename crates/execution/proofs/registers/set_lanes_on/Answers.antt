@@ -1,6 +1,5 @@
 -- `registers::set_lanes_on` meets its contract.
 use Rattle.execution.specs.Registers.{with_lanes_on}
-use Rattle.std.proofs.Common.{rules}
 use Rattle.execution.proofs.registers.set_lanes_on.Goals as goal
 
 pub returns : goal.returns

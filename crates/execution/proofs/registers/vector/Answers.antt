@@ -1,8 +1,7 @@
 -- `registers::vector` meets its contract: lane j is filled from its place in the registers.
-use Rattle.std.proofs.Common.{◌-◌, get_or, refl, rules}
-use Rattle.vector.proofs.Filling.{Filling, start, more, whole}
+use Rattle.std.proofs.Common.{refl, rules}
+use Rattle.vector.proofs.Filling.{start, more, whole}
 use Rattle.execution.specs.Registers.{vector}
-use Rattle.machine.specs.State.{lane_index}
 use Rattle.execution.proofs.registers.vector.Goals as goal
 
 pub loop-j-preserved : goal.loop-j-preserved

@@ -1,5 +1,5 @@
 -- `family::binary_i` meets its contract.
-use Rattle.std.proofs.Common.{sym, ◌∙◌, rules}
+use Rattle.std.proofs.Common.{sym, ◌∙◌}
 use Rattle.fast_path.proofs.Families.{binary-I}
 use Rattle.fast_path.proofs.family.binary_i.Goals as goal
 

@@ -1,5 +1,5 @@
 -- `family::binary_r` meets its contract.
-use Rattle.std.proofs.Common.{sym, ◌∙◌, rules}
+use Rattle.std.proofs.Common.{sym, ◌∙◌}
 use Rattle.fast_path.proofs.Families.{binary-R}
 use Rattle.fast_path.proofs.family.binary_r.Goals as goal
 

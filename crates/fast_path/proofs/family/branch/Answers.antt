@@ -1,5 +1,4 @@
 -- `family::branch` meets its contract: by whether it is taken.
-use Rattle.std.proofs.Common.{rules}
 use Rattle.fast_path.proofs.family.branch.Goals as goal
 
 pub returns-then-taken : goal.returns-then-taken

@@ -1,5 +1,5 @@
 -- `family::compare_i` meets its contract.
-use Rattle.std.proofs.Common.{sym, ◌∙◌, rules}
+use Rattle.std.proofs.Common.{sym, ◌∙◌}
 use Rattle.fast_path.proofs.Families.{compare-I}
 use Rattle.fast_path.proofs.family.compare_i.Goals as goal
 

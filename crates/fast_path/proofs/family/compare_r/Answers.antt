@@ -1,5 +1,5 @@
 -- `family::compare_r` meets its contract.
-use Rattle.std.proofs.Common.{sym, ◌∙◌, rules}
+use Rattle.std.proofs.Common.{sym, ◌∙◌}
 use Rattle.fast_path.proofs.Families.{compare-R}
 use Rattle.fast_path.proofs.family.compare_r.Goals as goal
 

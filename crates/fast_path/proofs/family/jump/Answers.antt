@@ -1,5 +1,5 @@
 -- `family::jump` meets its contract: by the operation, then by its test.
-use Rattle.std.proofs.Common.{not, eqb, sym, refl, ◌∙◌, rules, eq-eqb}
+use Rattle.std.proofs.Common.{not, eqb, sym, refl, ◌∙◌, eq-eqb}
 use Rattle.execution.specs.Registers.{scalar}
 use Rattle.word_layout.specs.Layout.{bits}
 use Rattle.fast_path.proofs.Families.{jumps, branches}

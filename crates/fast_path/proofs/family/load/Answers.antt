@@ -1,5 +1,5 @@
 -- `family::load` meets its contract: a load that is done writes what it loads.
-use Rattle.std.proofs.Common.{sym, ap, ◌∙◌, rules}
+use Rattle.std.proofs.Common.{sym, ap, ◌∙◌}
 use Rattle.fast_path.proofs.Families.{loads}
 use Rattle.memory.specs.Attempt.{of_loaded}
 use Rattle.fast_path.proofs.family.load.Goals as goal

@@ -1,5 +1,4 @@
 -- `family::move_immediate` meets its contract.
-use Rattle.std.proofs.Common.{rules}
 use Rattle.isa.proofs.Ranges.{half-word}
 use Rattle.fast_path.proofs.Families.{moves}
 use Rattle.fast_path.proofs.family.move_immediate.Goals as goal

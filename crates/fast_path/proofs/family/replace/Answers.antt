@@ -1,5 +1,5 @@
 -- `family::replace` meets its contract: by the arm that was taken.
-use Rattle.std.proofs.Common.{arith, rules}
+use Rattle.std.proofs.Common.{arith}
 use Rattle.fast_path.proofs.family.replace.Goals as goal
 
 pub overflow_add-result : goal.overflow_add-result

@@ -1,5 +1,4 @@
 -- `family::unary_r` meets its contract.
-use Rattle.std.proofs.Common.{rules}
 use Rattle.fast_path.proofs.Families.{unary-R}
 use Rattle.fast_path.proofs.family.unary_r.Goals as goal
 

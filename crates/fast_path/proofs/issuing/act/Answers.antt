@@ -1,5 +1,4 @@
 -- `issuing::act` meets its contract: by the action.
-use Rattle.std.proofs.Common.{rules}
 use Rattle.fast_path.proofs.issuing.act.Goals as goal
 
 pub returns-in-Write : goal.returns-in-Write

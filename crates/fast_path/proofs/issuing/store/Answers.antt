@@ -1,5 +1,5 @@
 -- `issuing::store` meets its contract: a store that traps changes nothing.
-use Rattle.std.proofs.Common.{sym, refl, ◌∙◌, rules}
+use Rattle.std.proofs.Common.{sym, refl, ◌∙◌}
 use Rattle.fast_path.proofs.Families.{stores, store-traps}
 use Rattle.fast_path.proofs.issuing.store.Goals as goal
 

@@ -1,6 +1,5 @@
 -- `issuing::try_word` meets its contract: by its two tests, then by what trying the word leaves.
-use Rattle.std.proofs.Common.{length, sym, ◌∙◌, arith, rules}
-use borrow.Author.Tests.{not-false}
+use Rattle.std.proofs.Common.{length, sym, ◌∙◌, arith}
 use Rattle.execution.proofs.Fitting.{fitting}
 use Rattle.execution.proofs.Targets.{before-end}
 use Rattle.fast_path.proofs.Trying.{tries-issue}

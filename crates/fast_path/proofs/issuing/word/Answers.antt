@@ -1,5 +1,4 @@
 -- `issuing::word` meets its contract: each arm by what it calls.
-use Rattle.std.proofs.Common.{rules}
 use Rattle.execution.specs.Effect.{context}
 use Rattle.fast_path.proofs.Trying.{tries-action}
 use Rattle.fast_path.proofs.issuing.word.Goals as goal

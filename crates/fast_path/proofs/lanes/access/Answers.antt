@@ -1,6 +1,5 @@
 -- `lanes::access` meets its contract: by the top byte.
 use Rattle.std.proofs.Common.{sym, ◌∙◌, rules}
-use borrow.Author.Tests.{not-false}
 use Rattle.fast_path.proofs.lanes.access.Goals as goal
 
 pub load-requires : goal.load-requires

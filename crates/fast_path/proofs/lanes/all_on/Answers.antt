@@ -1,5 +1,4 @@
 -- `lanes::all_on` meets its contract.
-use Rattle.std.proofs.Common.{rules}
 use Rattle.fast_path.proofs.lanes.all_on.Goals as goal
 
 pub returns : goal.returns

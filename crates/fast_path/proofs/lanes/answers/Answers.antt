@@ -1,5 +1,5 @@
 -- `lanes::answers` meets its contract: each compare by one of three, turned or negated.
-use Rattle.std.proofs.Common.{◌∙◌, arith, rules}
+use Rattle.std.proofs.Common.{◌∙◌, arith}
 use Rattle.fast_path.proofs.Compares.{at_most, turned, turned-unsigned, not_equal, not-below, not-above, not-below-unsigned, not-above-unsigned}
 use Rattle.fast_path.specs.Types.{Eq, Lt, Ult}
 use Rattle.fast_path.proofs.lanes.answers.Goals as goal

@@ -1,6 +1,5 @@
 -- `lanes::binary_number` meets its contract.
-use Rattle.std.proofs.Common.{sym, ◌∙◌, rules}
-use borrow.Author.Tests.{not-false}
+use Rattle.std.proofs.Common.{sym, ◌∙◌}
 use Rattle.fast_path.proofs.lanes.binary_number.Goals as goal
 
 pub combine_number-requires : goal.combine_number-requires

@@ -1,6 +1,5 @@
 -- `lanes::binary_vectors` meets its contract: by what such a word does.
-use Rattle.std.proofs.Common.{sym, ◌∙◌, rules}
-use borrow.Author.Tests.{not-false}
+use Rattle.std.proofs.Common.{sym, ◌∙◌}
 use Rattle.fast_path.proofs.Vectors.{combines-vectors}
 use Rattle.fast_path.proofs.lanes.binary_vectors.Goals as goal
 

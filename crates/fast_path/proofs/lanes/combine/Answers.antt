@@ -1,5 +1,5 @@
 -- `lanes::combine` meets its contract: the lanes are those of the operation.
-use Rattle.std.proofs.Common.{ℕ, ◌+◌, List, ap, ◌∙◌, rules}
+use Rattle.std.proofs.Common.{ℕ, ◌+◌, List, ap, ◌∙◌}
 use Rattle.execution.specs.Registers.{with_lanes_on, with_program_counter}
 use Rattle.vector.specs.Lanes.{binary_lanes}
 use Rattle.vector.proofs.Halves.{integers}

@@ -1,5 +1,5 @@
 -- `lanes::combine_number` meets its contract: each arm by the operation whose opcode it is.
-use Rattle.std.proofs.Common.{sym, refl, rules}
+use Rattle.std.proofs.Common.{sym, refl}
 use Rattle.isa.specs.declared.instruction.BinaryOp.TheVariants.{Or, And, Xor, Add, Sub, Mullo, Ashr, Shr, Shl}
 use Rattle.fast_path.proofs.lanes.combine_number.Goals as goal
 

@@ -1,5 +1,5 @@
 -- `lanes::i_word` meets its contract: by its flags.
-use Rattle.std.proofs.Common.{◌-◌, ◌/◌, ◌^◌, sym, ◌∙◌, arith, rules}
+use Rattle.std.proofs.Common.{◌-◌, ◌/◌, ◌^◌, sym, ◌∙◌, arith}
 use Rattle.fast_path.proofs.Vectors.{combines-immediate}
 use Rattle.fast_path.proofs.lanes.i_word.Goals as goal
 

@@ -1,5 +1,4 @@
 -- `lanes::load` meets its contract: a load that is done puts every lane.
-use Rattle.std.proofs.Common.{rules}
 use Rattle.execution.specs.Registers.{with_lanes_on}
 use Rattle.word_layout.specs.Layout.{bits}
 use Rattle.fast_path.proofs.Vectors.{loads-lanes, tries_left}

@@ -1,5 +1,5 @@
 -- `lanes::put` meets its contract: where every lane is on, every lane is put.
-use Rattle.std.proofs.Common.{ℕ, ◌+◌, List, ap, ◌∙◌, rules}
+use Rattle.std.proofs.Common.{ℕ, ◌+◌, List, ap, ◌∙◌}
 use Rattle.execution.specs.Registers.{with_program_counter}
 use Rattle.word_layout.specs.Layout.{bits}
 use Rattle.fast_path.proofs.Vectors.{puts-all}

@@ -1,5 +1,5 @@
 -- `lanes::r_word` meets its contract: by its flags.
-use Rattle.std.proofs.Common.{sym, ◌∙◌, rules}
+use Rattle.std.proofs.Common.{sym, ◌∙◌}
 use Rattle.fast_path.proofs.Vectors.{compares-vectors, combines-number}
 use Rattle.fast_path.proofs.lanes.r_word.Goals as goal
 

@@ -1,9 +1,7 @@
 -- `lanes::signed_below` meets its contract: bit j is filled by the answer of lane j.
-use Rattle.std.proofs.Common.{◌-◌, ap, ◌∙◌, ap₂, rules}
-use Rattle.compares.proofs.Flags.{Collecting, start, more, whole}
+use Rattle.std.proofs.Common.{ap, ◌∙◌, ap₂, rules}
+use Rattle.compares.proofs.Flags.{start, more, whole}
 use Rattle.compares.specs.Outcome.{flags_of, answers_of}
-use Rattle.ordering.specs.Compare.{compare}
-use Rattle.vector.specs.Lanes.{lane}
 use Rattle.fast_path.specs.Types.{Lt}
 use Rattle.fast_path.proofs.lanes.signed_below.Goals as goal
 

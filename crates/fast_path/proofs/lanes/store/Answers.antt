@@ -1,5 +1,5 @@
 -- `lanes::store` meets its contract: a store that traps changes nothing.
-use Rattle.std.proofs.Common.{refl, rules}
+use Rattle.std.proofs.Common.{refl}
 use Rattle.fast_path.proofs.Vectors.{stores-lanes, store-lanes-traps}
 use Rattle.fast_path.proofs.lanes.store.Goals as goal
 

@@ -1,7 +1,6 @@
 -- `lanes::unsigned_below` meets its contract: bit j is filled by the answer of lane j.
-use Rattle.std.proofs.Common.{◌-◌, ap, ◌∙◌, ap₂, rules}
-use Rattle.compares.proofs.Flags.{Collecting, start, more, whole}
-use Rattle.compares.specs.Outcome.{flags_of, answers_of}
+use Rattle.std.proofs.Common.{◌-◌}
+use Rattle.compares.proofs.Flags.{Collecting}
 use Rattle.ordering.specs.Compare.{compare}
 use Rattle.vector.specs.Lanes.{lane}
 use Rattle.fast_path.specs.Types.{Ult}

@@ -1,9 +1,7 @@
 -- `registers::set_vector` meets its contract: step j writes lane j at its place in the registers.
-use Rattle.std.proofs.Common.{◌-◌, set, refl, length-set, rules}
-use Rattle.vector.specs.Lanes.{lane}
+use Rattle.std.proofs.Common.{refl, length-set, rules}
 use Rattle.execution.specs.Registers.{with_vector}
-use Rattle.machine.specs.State.{lane_index}
-use Rattle.memory.proofs.Stepping.{Stepping, start, more, whole}
+use Rattle.memory.proofs.Stepping.{start, more, whole}
 use Rattle.fast_path.proofs.registers.set_vector.Goals as goal
 
 pub loop-j-preserved : goal.loop-j-preserved

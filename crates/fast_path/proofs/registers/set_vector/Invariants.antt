@@ -1,9 +1,8 @@
 -- `registers::set_vector` meets its contract: step j writes lane j at its place in the registers.
-use Rattle.std.proofs.Common.{◌-◌, set, refl, length-set, rules}
+use Rattle.std.proofs.Common.{◌-◌, set}
 use Rattle.vector.specs.Lanes.{lane}
-use Rattle.execution.specs.Registers.{with_vector}
 use Rattle.machine.specs.State.{lane_index}
-use Rattle.memory.proofs.Stepping.{Stepping, start, more, whole}
+use Rattle.memory.proofs.Stepping.{Stepping}
 use Rattle.fast_path.proofs.registers.set_vector.Given as goal
 
 abbrev pub invariant-loop-j : goal.invariant-loop-j

@@ -1,7 +1,6 @@
 -- `registers::vector` meets its contract: lane j is filled from its place in the registers.
-use Rattle.std.proofs.Common.{◌-◌, get_or, refl, rules}
-use Rattle.vector.proofs.Filling.{Filling, start, more, whole}
-use Rattle.execution.specs.Registers.{vector}
+use Rattle.std.proofs.Common.{◌-◌, get_or}
+use Rattle.vector.proofs.Filling.{Filling}
 use Rattle.machine.specs.State.{lane_index}
 use Rattle.fast_path.proofs.registers.vector.Given as goal
 

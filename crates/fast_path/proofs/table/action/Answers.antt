@@ -1,5 +1,4 @@
 -- `table::action` meets its contract: each arm by what it calls.
-use Rattle.std.proofs.Common.{rules}
 use Rattle.fast_path.proofs.table.action.Goals as goal
 
 pub returns-in_default : goal.returns-in_default

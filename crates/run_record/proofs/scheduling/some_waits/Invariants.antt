@@ -1,10 +1,7 @@
 -- `some_waits` meets its contract.
 use Prim.Native.Nat.{◌-◌}
-use mathlib.Core.Path.{sym, ◌∙◌}
-use native.Mathlib.Omega.{arith}
-use borrow.Author.Rules.{rules}
-use Rattle.machine.specs.Scheduler.{waits, some_waits}
-use Rattle.machine.proofs.Loops.{Searching, search-start, search-found, search-on, search-done}
+use Rattle.machine.specs.Scheduler.{waits}
+use Rattle.machine.proofs.Loops.{Searching}
 use Rattle.run_record.proofs.scheduling.some_waits.Given as goal
 
 abbrev pub invariant-loop-t : goal.invariant-loop-t

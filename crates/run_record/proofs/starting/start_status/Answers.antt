@@ -1,5 +1,4 @@
 -- `start_status` meets its contract.
-use borrow.Author.Rules.{rules}
 use borrow.Author.Tests.{eq-eqb, ne_eqb}
 use Rattle.run_record.proofs.starting.start_status.Goals as goal
 

@@ -1,8 +1,7 @@
 -- `started` meets its contract.
-use Prim.Native.Nat.{ℕ, ◌-◌, ◌≤◌}
+use Prim.Native.Nat.{ℕ}
 use mathlib.Core.Path.{◌≡◌, ap, ◌∙◌}
 use native.Mathlib.Omega.{arith}
-use borrow.Author.Rules.{rules}
 use lib.ListN.{replicate}
 use Rattle.thread_entry.specs.Entry.{zero_thread}
 use Rattle.machine.specs.Machine.{start_status, start, with_status_at}

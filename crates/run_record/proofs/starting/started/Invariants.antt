@@ -1,13 +1,11 @@
 -- `started` meets its contract.
 use Prim.Native.Nat.{ℕ, ◌-◌, ◌≤◌}
-use mathlib.Core.Path.{◌≡◌, ap, ◌∙◌}
-use native.Mathlib.Omega.{arith}
-use borrow.Author.Rules.{rules}
+use mathlib.Core.Path.{◌≡◌}
 use lib.ListN.{replicate}
 use Rattle.thread_entry.specs.Entry.{zero_thread}
-use Rattle.machine.specs.Machine.{start_status, start, with_status_at}
+use Rattle.machine.specs.Machine.{start_status}
 use Rattle.machine.specs.declared.record.Machine.{Machine}
-use Rattle.machine.proofs.Loops.{changed, changed_to, change, restating}
+use Rattle.machine.proofs.Loops.{changed_to, restating}
 use Rattle.run_record.proofs.starting.started.Given as goal
 
 -- the record before any thread is started

@@ -1,5 +1,4 @@
 -- `zero` meets its contract.
-use borrow.Author.Rules.{rules}
 use Rattle.run_record.proofs.starting.zero.Goals as goal
 
 pub returns : goal.returns

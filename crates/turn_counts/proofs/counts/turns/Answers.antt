@@ -1,11 +1,10 @@
 -- `turns` meets its contract.
-use Prim.Native.Nat.{ℕ, ◌+◌, ◌-◌, ◌<◌, ◌≤◌}
+use Prim.Native.Nat.{ℕ, ◌+◌, ◌<◌}
 use mathlib.Core.Path.{◌≡◌, refl, sym, ◌∙◌}
 use mathlib.Core.List.{List, [], ◌∷◌, ◌++◌}
 use native.Mathlib.Numerals.{add-one}
 use native.Mathlib.Omega.{arith}
-use borrow.Author.Rules.{rules}
-use lib.ListN.{length, length-map, length-set, take, set}
+use lib.ListN.{length, length-set, take, set}
 use lib.Seq.{take_all, take-suc, take-suc-set}
 use Rattle.machine.specs.Machine.{turns_at, turns_of}
 use Rattle.machine.specs.declared.record.Machine.{Machine}

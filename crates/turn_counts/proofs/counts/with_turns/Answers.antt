@@ -1,13 +1,12 @@
 -- `with_turns` meets its contract.
-use Prim.Native.Nat.{ℕ, ◌-◌, ◌≤◌}
+use Prim.Native.Nat.{ℕ}
 use mathlib.Core.List.{List}
-use mathlib.Core.Path.{◌≡◌, refl, sym, ap, ◌∙◌}
+use mathlib.Core.Path.{◌≡◌, refl, ap, ◌∙◌}
 use native.Mathlib.Omega.{arith}
-use borrow.Author.Rules.{rules}
-use lib.ListN.{length, length-map, get_or, set}
+use lib.ListN.{length, get_or, set}
 use Rattle.thread_entry.specs.Entry.{zero_thread}
 use Rattle.machine.specs.declared.record.Machine.{Machine}
-use Rattle.machine.proofs.Loops.{changed, changed_to, change, recounting, recounted}
+use Rattle.machine.proofs.Loops.{changed, change, recounting, recounted}
 use Rattle.turn_counts.proofs.counts.with_turns.Goals as goal
 
 -- the record with one count put

@@ -1,13 +1,11 @@
 -- `with_turns` meets its contract.
 use Prim.Native.Nat.{ℕ, ◌-◌, ◌≤◌}
 use mathlib.Core.List.{List}
-use mathlib.Core.Path.{◌≡◌, refl, sym, ap, ◌∙◌}
-use native.Mathlib.Omega.{arith}
-use borrow.Author.Rules.{rules}
-use lib.ListN.{length, length-map, get_or, set}
+use mathlib.Core.Path.{◌≡◌}
+use lib.ListN.{get_or, set}
 use Rattle.thread_entry.specs.Entry.{zero_thread}
 use Rattle.machine.specs.declared.record.Machine.{Machine}
-use Rattle.machine.proofs.Loops.{changed, changed_to, change, recounting, recounted}
+use Rattle.machine.proofs.Loops.{changed_to, recounting}
 use Rattle.turn_counts.proofs.counts.with_turns.Given as goal
 
 -- the record with one count put

@@ -1,5 +1,4 @@
 -- `carries_in_range` meets its contract.
-use borrow.Author.Rules.{rules}
 use Rattle.well_formedness.proofs.range.carries_in_range.Goals as goal
 
 pub returns-in-Trapped : goal.returns-in-Trapped

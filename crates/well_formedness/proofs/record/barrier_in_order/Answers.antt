@@ -1,5 +1,4 @@
 -- `barrier_in_order` meets its contract.
-use borrow.Author.Rules.{rules}
 use Rattle.well_formedness.proofs.record.barrier_in_order.Goals as goal
 
 pub returns-in-Waiting : goal.returns-in-Waiting

@@ -1,5 +1,4 @@
 -- `entry_in_order` meets its contract.
-use borrow.Author.Rules.{rules}
 use Rattle.well_formedness.proofs.record.entry_in_order.Goals as goal
 
 pub returns : goal.returns

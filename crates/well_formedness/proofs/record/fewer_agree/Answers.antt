@@ -1,11 +1,7 @@
 -- `fewer_agree` meets its contract.
-use Prim.Native.Nat.{◌-◌}
-use mathlib.Core.Logic.{⊎_elim}
 use mathlib.Core.Path.{◌≡◌, ◌∙◌}
 use mathlib.Core.Bool.{true, false}
-use native.Mathlib.Omega.{arith}
-use borrow.Author.Rules.{rules}
-use Rattle.machine.proofs.Loops.{Searching, search-start, search-found, search-on, search-done, Counting, count-start, count-one, count-on, count-done}
+use Rattle.machine.proofs.Loops.{search-start, search-found, search-on, search-done, count-start, count-one, count-on, count-done}
 use Rattle.machine.proofs.Meetings.{disputes, waits_here}
 use Rattle.well_formedness.proofs.record.fewer_agree.Goals as goal
 use Rattle.well_formedness.proofs.record.fewer_agree.Goals.{then-waits_at, else-waits_at}

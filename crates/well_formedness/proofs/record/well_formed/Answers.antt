@@ -1,6 +1,5 @@
 -- `well_formed` meets its contract.
 use mathlib.Core.Path.{ap, ◌∙◌}
-use borrow.Author.Rules.{rules}
 use Rattle.machine.specs.WellFormed.{well_formed_within}
 use Rattle.well_formedness.proofs.record.well_formed.Goals as goal
 

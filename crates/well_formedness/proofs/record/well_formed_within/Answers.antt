@@ -1,12 +1,8 @@
 -- `well_formed_within` meets its contract.
-use Prim.Native.Nat.{◌-◌}
 use mathlib.Core.Bool.{true, false}
 use mathlib.Core.Path.{◌≡◌, refl, sym, ◌∙◌}
 use native.Mathlib.Omega.{arith}
-use borrow.Author.Rules.{rules}
-use borrow.Author.Tests.{not-true, not-false}
-use lib.ListN.{length, length-map}
-use Rattle.machine.specs.WellFormed.{well_formed_within}
+use lib.ListN.{length}
 use Rattle.machine.specs.Search.{all}
 use Rattle.well_formedness.proofs.Entries.{in_order, by_entries, no-mask, no_last}
 use Rattle.machine.proofs.Loops.{from, look, stop}
