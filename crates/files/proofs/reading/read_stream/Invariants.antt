@@ -1,5 +1,5 @@
 -- What is read stays a part of the buffer, and the buffer keeps its length.
-use Rattle.std.proofs.Common.{length, ◌-◌, ◌≡◌, ℕ, ◌+◌, ◌*◌, ◌<◌, ◌≤◌}
+use Rattle.std.proofs.Common.{length, ◌-◌}
 use Rattle.io.specs.Counts.{IsPrefixLen}
 use Rattle.files.proofs.reading.read_stream.Given as goal
 
