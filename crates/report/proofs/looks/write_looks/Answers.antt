@@ -1,4 +1,5 @@
 -- `write_looks` meets its contract: the line has room.
+use native.Mathlib.Omega.{arith}
 use borrow.Author.Rules.{rules}
 use mathlib.Core.Path.{◌∙◌}
 use Rattle.report.proofs.Lengths.{looks-whole}
@@ -9,4 +10,4 @@ pub returns : goal.returns
 unfolding looks_line
 returns c =
     let x = c.args in
-    c.put_looks.ensures ∙ looks-whole x.out.now x.looks c.put_looks-arg-1.given.0.1
+    c.put_looks.ensures ∙ looks-whole x.out.now x.looks (omega arith)

@@ -1,4 +1,5 @@
 -- `write_report` meets its contract, by the answer.
+use native.Mathlib.Omega.{arith}
 use borrow.Author.Rules.{rules}
 use mathlib.Core.Path.{◌∙◌}
 use lib.Dec.{lit≤}
@@ -14,21 +15,21 @@ unfolding report bytes
 returns-in-Stopped c =
     let x = c.args in
     rw c.in-Stopped.is
-    (c.put_body.ensures ∙ body-whole x.out.now (bytes "stopped") x.run.issues x.run.machine x.registers.now c.put_body-arg-1.given.0.1 (lit≤ tt))
+    (c.put_body.ensures ∙ body-whole x.out.now (bytes "stopped") x.run.issues x.run.machine x.registers.now (omega arith) (lit≤ tt))
 
 pub returns-in-Stuck : goal.returns-in-Stuck
 unfolding report bytes
 returns-in-Stuck c =
     let x = c.args in
     rw c.in-Stuck.is
-    (c.put_body-in-Stuck.ensures ∙ body-whole x.out.now (bytes "stuck") x.run.issues x.run.machine x.registers.now c.put_body-arg-in-Stopped-2-1.given.0.1 (lit≤ tt))
+    (c.put_body-in-Stuck.ensures ∙ body-whole x.out.now (bytes "stuck") x.run.issues x.run.machine x.registers.now (omega arith) (lit≤ tt))
 
 pub returns-in-Spent : goal.returns-in-Spent
 unfolding report bytes
 returns-in-Spent c =
     let x = c.args in
     rw c.in-Spent.is
-    (c.put_body-in-Spent.ensures ∙ body-whole x.out.now (bytes "spent") x.run.issues x.run.machine x.registers.now c.put_body-arg-in-Stuck-2-1.given.0.1 (lit≤ tt))
+    (c.put_body-in-Spent.ensures ∙ body-whole x.out.now (bytes "spent") x.run.issues x.run.machine x.registers.now (omega arith) (lit≤ tt))
 
 pub returns-in-Refused : goal.returns-in-Refused
 unfolding report concat

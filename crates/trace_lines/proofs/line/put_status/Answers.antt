@@ -11,20 +11,20 @@ use Rattle.trace_lines.proofs.line.put_status.Goals as goal
 pub returns-in-Trapped : goal.returns-in-Trapped
 unfolding bytes
 returns-in-Trapped c =
-    let s = c.enum_told-in-Trapped-1.given in
+    let s = c.in-Trapped in
     let x = c.args in
-    rw s.1
-    (after (wrote x.at x.out.now) (bytes "trapped" ∷ []) (carried_parts (Trapped s.0.0))
-    c.put_text-at.ensures (rw s.1 at c.put_carried.ensures))
+    rw s.is
+    (after (wrote x.at x.out.now) (bytes "trapped" ∷ []) (carried_parts (Trapped s.field-0))
+    c.put_text-at.ensures (rw s.is at c.put_carried.ensures))
 
 pub returns-in-Waiting : goal.returns-in-Waiting
 unfolding bytes
 returns-in-Waiting c =
-    let s = c.enum_told-in-Waiting-1.given in
+    let s = c.in-Waiting in
     let x = c.args in
-    rw s.1
-    (after (wrote x.at x.out.now) (bytes "waiting" ∷ []) (carried_parts (Waiting s.0.0 s.0.1.0))
-    c.put_text-at-in-Waiting.ensures (rw s.1 at c.put_carried-in-Waiting.ensures))
+    rw s.is
+    (after (wrote x.at x.out.now) (bytes "waiting" ∷ []) (carried_parts (Waiting s.field-0 s.field-1))
+    c.put_text-at-in-Waiting.ensures (rw s.is at c.put_carried-in-Waiting.ensures))
 
 pub returns-in-Idle : goal.returns-in-Idle
 unfolding bytes

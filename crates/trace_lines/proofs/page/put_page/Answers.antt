@@ -22,7 +22,7 @@ loop-put-preserved c =
     let line = c.put_line-at in (
       rw (add-one l.put) (page-more (wrote 0 a.out.now) a.made a.rows l.put _ (omega arith) l.invariant.0 line.ensures),
       omega arith,
-      line.auto.0 ∙ l.invariant.2,
+      line.auto.out ∙ l.invariant.2,
     )
 
 pub returns : goal.returns

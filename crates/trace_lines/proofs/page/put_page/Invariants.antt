@@ -13,6 +13,3 @@ use Rattle.trace_lines.proofs.page.put_page.Given as goal
 
 abbrev pub invariant-loop-put : goal.invariant-loop-put
 invariant-loop-put l = (wrote l.at l.out ≡ puts_all (wrote 0 l.initial.out) (page_parts l.made (take l.put l.rows))) × (l.put ≤ l.count) × (length l.out ≡ length l.initial.out)
-
-abbrev pub decreases-loop-put : goal.decreases-loop-put
-decreases-loop-put l = l.count - l.put

@@ -10,11 +10,11 @@ pub returns-then-most-count : goal.returns-then-most-count
 returns-then-most-count c =
     let x = c.args in
     c.put_page.ensures
-    ∙ all_shown x.out.now x.made x.count x.rows c.put_page-arg-1.given.0.1 (omega arith)
+    ∙ all_shown x.out.now x.made x.count x.rows (omega arith) (omega arith)
     c.if-most-count.true
 
 pub returns : goal.returns
 returns c =
     let x = c.args in
     c.put_page-2.ensures
-    ∙ page-whole x.out.now x.made x.count x.rows c.put_page-arg-2-1.given.0.1 (omega arith)
+    ∙ page-whole x.out.now x.made x.count x.rows (omega arith) (omega arith)
