@@ -1,9 +1,9 @@
 -- What the interpreter's claims say of a run with one issue more, and of one that has ended.
 use Rattle.std.proofs.Common.{◌≡◌, ℕ, zero, suc, ◌+◌, ◌%◌, ◌^◌, ◌<◌, true, false, List, [], ◌∷◌, ◌++◌, length, sym, refl, ap, ◌∙◌, append-nil, arith, length-append}
 use mathlib.Core.Option.{Option, none, some}
-use Rattle.answer.specs.Answer.{given, refused}
+use Rattle.answer.specs.Answer.{given}
 use Rattle.interpreter.proofs.Claims.{within-budget, joins, answers_number, looks-within, no-budget-looks, ends-by-record}
-use Rattle.interpreter.specs.Answer.{stopped, stuck, spent, answered}
+use Rattle.interpreter.specs.Answer.{spent, answered}
 use Rattle.interpreter.specs.Choosing.{issued, issues, reached_by, reached, entries_to, look, looks_for, ending_at}
 use Rattle.interpreter.specs.Claims.{SomeThread, number_in}
 use Rattle.interpreter.specs.Run.{Outcome, outcome, number, run_issues, run_reached, run_answer, run_looks, run}

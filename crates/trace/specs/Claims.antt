@@ -1,5 +1,5 @@
 -- What is proved of the definitions, for other crates to cite.
-use Rattle.std.specs.Prelude.{◌≡◌, ℕ, ◌+◌, ◌-◌, ◌^◌, ◌<◌, ◌≤◌, List, ◌++◌, map, length, drop, ◌≢◌}
+use Rattle.std.specs.Prelude.{◌≡◌, ℕ, ◌+◌, ◌-◌, ◌^◌, ◌<◌, List, ◌++◌, map, length, drop, ◌≢◌}
 use Rattle.std.proofs.Math.Option.{none, some}
 use Rattle.answer.specs.Answer.{given}
 use Rattle.execution.specs.Registers.{program_counter}

@@ -1,5 +1,5 @@
 -- `continued` meets its contract.
-use Rattle.std.proofs.Common.{◌≡◌, ℕ, ◌+◌, ◌%◌, ◌^◌, ◌<◌, ◌∙◌, arith, rules}
+use Rattle.std.proofs.Common.{◌≡◌, ℕ, ◌+◌, ◌%◌, ◌^◌, ◌<◌, ◌∙◌, arith}
 use Rattle.trace.specs.Joining.{less_once, continued_run}
 use Rattle.trace.proofs.joining.continued.Goals as goal
 

@@ -1,5 +1,5 @@
 -- `entries_to_next` meets its contract.
-use Rattle.std.proofs.Common.{sym, ap, rules}
+use Rattle.std.proofs.Common.{sym, ap}
 use Rattle.machine.proofs.Claims.{turned}
 use Rattle.interpreter.specs.Choosing.{entries_to}
 use Rattle.trace.proofs.joining.entries_to_next.Goals as goal

@@ -1,5 +1,5 @@
 -- `address_of` meets its contract.
-use Rattle.std.proofs.Common.{sym, arith, rules}
+use Rattle.std.proofs.Common.{sym, arith}
 use lib.ListN.{get_or-eq_default}
 use Rattle.trace.proofs.row.address_of.Goals as goal
 

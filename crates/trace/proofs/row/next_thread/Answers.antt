@@ -1,5 +1,4 @@
 -- `next_thread` meets its contract.
-use Rattle.std.proofs.Common.{rules}
 use Rattle.trace.proofs.row.next_thread.Goals as goal
 
 pub returns : goal.returns

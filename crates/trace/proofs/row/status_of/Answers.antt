@@ -1,5 +1,5 @@
 -- `status_of` meets its contract.
-use Rattle.std.proofs.Common.{◌≡◌, length, sym, ap, ◌∙◌, arith, rules}
+use Rattle.std.proofs.Common.{◌≡◌, length, sym, ap, arith}
 use lib.ListN.{get_or-eq_default}
 use Rattle.thread_entry.specs.Entry.{zero_thread}
 use Rattle.trace.proofs.row.status_of.Goals as goal

@@ -1,5 +1,5 @@
 -- `word_at` meets its contract.
-use Rattle.std.proofs.Common.{◌*◌, ◌%◌, length, arith, rules, le-ltb, lt-ltb, eq-eqb, ne_eqb}
+use Rattle.std.proofs.Common.{◌*◌, ◌%◌, length, arith, le-ltb, lt-ltb, eq-eqb, ne_eqb}
 use Rattle.trace.specs.Rows.{word_at}
 use Rattle.trace.proofs.row.word_at.Goals as goal
 

@@ -1,5 +1,5 @@
 -- `advance` meets its contract.
-use Rattle.std.proofs.Common.{refl, rules}
+use Rattle.std.proofs.Common.{refl}
 use Rattle.trace.proofs.tracing.advance.Goals as goal
 
 pub returns : goal.returns

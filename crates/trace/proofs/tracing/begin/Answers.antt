@@ -1,5 +1,5 @@
 -- `begin` meets its contract.
-use Rattle.std.proofs.Common.{◌≡◌, ℕ, sym, ap, ◌∙◌, rules}
+use Rattle.std.proofs.Common.{◌≡◌, ℕ, sym, ap, ◌∙◌}
 use Rattle.trace.specs.Turn.{progress_of}
 use Rattle.trace.specs.Types.{Progress, Run}
 use Rattle.trace.proofs.tracing.begin.Goals as goal

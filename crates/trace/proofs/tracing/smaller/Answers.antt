@@ -1,5 +1,5 @@
 -- `smaller` meets its contract.
-use Rattle.std.proofs.Common.{rules, le-ltb, lt-ltb}
+use Rattle.std.proofs.Common.{le-ltb, lt-ltb}
 use Rattle.trace.specs.Traced.{least}
 use Rattle.trace.proofs.tracing.smaller.Goals as goal
 

@@ -1,5 +1,4 @@
 -- `Progress::of` meets its contract.
-use Rattle.std.proofs.Common.{rules}
 use Rattle.trace.proofs.tracing.Progress.of.Goals as goal
 
 pub returns : goal.returns
