@@ -1,6 +1,6 @@
 -- Demand 3 holds of a list of calls of korvammel_run: read as a board reads it, it is a list of runs.
 use Prim.Native.Nat.{ℕ, ◌+◌, ◌*◌, ◌/◌, ◌%◌, ◌<◌, ◌^◌}
-use mathlib.Core.Bool.{Bool, true, false, not, cond}
+use mathlib.Core.Bool.{Bool, true, false, cond}
 use mathlib.Core.List.{List, [], ◌∷◌, map}
 use mathlib.Core.Option.{Option, none, some}
 use mathlib.Core.Path.{◌≡◌, refl, sym, ap, subst, ◌∙◌}
@@ -24,7 +24,7 @@ use Rattle.interpreter.specs.Answer.{Ending, stopped, stuck, spent}
 use Rattle.interpreter.specs.Demand.{Session}
 use Rattle.interpreter.specs.Refusal.{run_number as interpreter_number}
 use Rattle.interpreter.specs.Run.{Outcome, number, run, run_answer}
-use Rattle.interpreter.specs.Choosing.{ending_at, reached, issues}
+use Rattle.interpreter.specs.Choosing.{ending_at, reached}
 use Rattle.machine.specs.State.{State, state}
 use Rattle.machine.specs.WellFormed.{well_formed}
 use Rattle.machine.specs.declared.record.Machine.{Machine}

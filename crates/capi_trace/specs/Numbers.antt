@@ -1,5 +1,5 @@
 -- Rows as numbers (include/korvammel.h): thread, address, word, status, reason, id and count, 0 where the status does not carry them.
-use Rattle.std.specs.Prelude.{ℕ, suc, ◌+◌, ◌*◌, List, [], ◌∷◌, ◌++◌, set}
+use Rattle.std.specs.Prelude.{ℕ, ◌+◌, ◌*◌, List, [], ◌∷◌, ◌++◌, set}
 use Rattle.image.specs.Fields.{status_fields}
 use Rattle.thread_entry.specs.declared.status.Status.{Status}
 use Rattle.trace.specs.declared.row.Row.{Row}

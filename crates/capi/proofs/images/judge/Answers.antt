@@ -2,7 +2,6 @@
 use mathlib.Core.Path.{ap, ◌∙◌}
 use Rattle.answer.specs.Refusal.{size_checks, sizes_number}
 use Rattle.capi.proofs.Verdicts.{in_order}
-use borrow.Author.Rules.{rules}
 use Rattle.capi.proofs.images.judge.Goals as goal
 
 pub returns : goal.returns

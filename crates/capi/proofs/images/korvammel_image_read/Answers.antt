@@ -1,7 +1,6 @@
 -- `korvammel_image_read` meets its contract: what the reading restored, with its record in bytes.
 use Rattle.capi.specs.Images.{read_call}
 use Rattle.capi.proofs.Handed.{read-handed}
-use borrow.Author.Rules.{rules}
 use Rattle.capi.proofs.images.korvammel_image_read.Goals as goal
 
 pub returns : goal.returns

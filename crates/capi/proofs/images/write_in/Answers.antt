@@ -7,7 +7,6 @@ use Rattle.image.specs.Calls.{write_as}
 use Rattle.machine.specs.State.{state}
 use Rattle.capi.specs.Refusal.{record_checks}
 use Rattle.capi.proofs.Writing.{refused-before, write-handed}
-use borrow.Author.Rules.{rules}
 use Rattle.capi.proofs.images.write_in.Goals as goal
 
 pub returns-in-Refused : goal.returns-in-Refused

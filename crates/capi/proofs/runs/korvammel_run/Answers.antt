@@ -1,5 +1,4 @@
 -- `korvammel_run` meets its contract: by the verdict.
-use mathlib.Core.List.{[], ◌∷◌}
 use mathlib.Core.Path.{sym, ap, ◌∙◌}
 use lib.ListN.{length}
 use Rattle.answer.specs.Refusal.{number_of}
@@ -10,7 +9,6 @@ use Rattle.capi.specs.Refusal.{run_number}
 use Rattle.capi.specs.Runs.{ran, no_result, run_call}
 use Rattle.capi.proofs.Handed.{run-handed}
 use Rattle.capi.proofs.Verdicts.{in_order, machine-is}
-use borrow.Author.Rules.{rules}
 use Rattle.capi.proofs.runs.korvammel_run.Goals as goal
 
 pub returns-in-Refused : goal.returns-in-Refused

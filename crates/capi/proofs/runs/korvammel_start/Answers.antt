@@ -1,7 +1,6 @@
 -- `korvammel_start` meets its contract: what the start made, with its record in bytes.
 use Rattle.capi.specs.Runs.{start_call}
 use Rattle.capi.proofs.Handed.{start-handed}
-use borrow.Author.Rules.{rules}
 use Rattle.capi.proofs.runs.korvammel_start.Goals as goal
 
 pub returns : goal.returns

@@ -1,12 +1,10 @@
 -- `fill` meets its contract: page by page it follows the plain run.
-use Prim.Native.Nat.{◌-◌, ◌<◌, ◌^◌}
-use mathlib.Core.Path.{◌≡◌, refl, sym, ap, ◌∙◌}
+use Prim.Native.Nat.{◌<◌, ◌^◌}
+use mathlib.Core.Path.{refl, sym, ap, ◌∙◌}
 use native.Mathlib.Omega.{arith}
-use borrow.Author.Rules.{rules}
-use lib.ListN.{length}
 use Rattle.machine.specs.State.{State, state}
 use Rattle.capi_trace.specs.Calls.{filling}
-use Rattle.capi_trace.proofs.Pages.{Following, from-here, begun, more-fits, turned, nearer, ended}
+use Rattle.capi_trace.proofs.Pages.{from-here, begun, more-fits, turned, nearer, ended}
 use Rattle.capi_trace.proofs.filling.fill.Goals as goal
 
 pub loop-left-init : goal.loop-left-init
@@ -48,9 +46,9 @@ loop-left-preserved c =
     let small : c.args.limit < 2 ^ 32 = omega (arith, c.ranges.limit) in
     let go = sym c.goes_on.ensures ∙ c.loop-left-test.true in (
       rw c.smaller-made.ensures (turned small c.requires l.invariant.0 go c.fill_page-run.ensures),
-      c.fill_page-run.auto.1.0 ∙ l.invariant.1,
-      c.fill_page-run.auto.1.1.0 ∙ l.invariant.2,
-      c.fill_page-run.auto.1.1.1.1.1.1.0 ∙ l.invariant.3,
+      c.fill_page-run.auto.registers ∙ l.invariant.1,
+      c.fill_page-run.auto.memory ∙ l.invariant.2,
+      c.fill_page-run.auto.numbers ∙ l.invariant.3,
     )
 
 pub returns : goal.returns
@@ -65,10 +63,10 @@ returns c =
     ∙ ap (λ (y : State). filling a.program.now a.limit y a.numbers.now) same
 
 pub shape_of-registers : goal.shape_of-registers
-shape_of-registers c = c.loop-left.invariant.1 ∙ c.run-run.auto.1.0
+shape_of-registers c = c.loop-left.invariant.1 ∙ c.run-run.auto.registers
 
 pub shape_of-memory : goal.shape_of-memory
-shape_of-memory c = c.loop-left.invariant.2 ∙ c.run-run.auto.1.1.0
+shape_of-memory c = c.loop-left.invariant.2 ∙ c.run-run.auto.memory
 
 pub shape_of-numbers : goal.shape_of-numbers
 shape_of-numbers c = c.loop-left.invariant.3

@@ -1,12 +1,9 @@
 -- `fill` meets its contract: page by page it follows the plain run.
-use Prim.Native.Nat.{◌-◌, ◌<◌, ◌^◌}
-use mathlib.Core.Path.{◌≡◌, refl, sym, ap, ◌∙◌}
-use native.Mathlib.Omega.{arith}
-use borrow.Author.Rules.{rules}
+use Prim.Native.Nat.{◌-◌}
+use mathlib.Core.Path.{◌≡◌}
 use lib.ListN.{length}
-use Rattle.machine.specs.State.{State, state}
-use Rattle.capi_trace.specs.Calls.{filling}
-use Rattle.capi_trace.proofs.Pages.{Following, from-here, begun, more-fits, turned, nearer, ended}
+use Rattle.machine.specs.State.{state}
+use Rattle.capi_trace.proofs.Pages.{Following}
 use Rattle.capi_trace.proofs.filling.fill.Given as goal
 
 -- the machine that the loop begins with is the one that `fill` began with

@@ -1,7 +1,6 @@
 -- `fill_page` meets its contract: a traced run into a list of 64 rows, and what it made put as numbers.
 use mathlib.Core.Path.{refl}
 use native.Mathlib.Omega.{arith}
-use borrow.Author.Rules.{rules}
 use Rattle.capi_trace.proofs.Pages.{page-few}
 use Rattle.capi_trace.proofs.filling.fill_page.Goals as goal
 

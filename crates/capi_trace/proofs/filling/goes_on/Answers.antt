@@ -1,5 +1,4 @@
 -- `goes_on` meets its contract, by the answer.
-use borrow.Author.Rules.{rules}
 use Rattle.capi_trace.proofs.filling.goes_on.Goals as goal
 
 pub returns-in-Spent : goal.returns-in-Spent

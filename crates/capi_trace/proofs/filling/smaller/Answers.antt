@@ -1,5 +1,4 @@
 -- `smaller` meets its contract.
-use borrow.Author.Rules.{rules}
 use borrow.Author.Tests.{lt-ltb, le-ltb}
 use Rattle.trace.specs.Traced.{least}
 use Rattle.capi_trace.proofs.filling.smaller.Goals as goal

@@ -1,6 +1,5 @@
 -- `numbers_of` meets its contract.
 use mathlib.Core.Path.{refl}
-use borrow.Author.Rules.{rules}
 use Rattle.capi_trace.specs.Numbers.{numbers_of}
 use Rattle.capi_trace.proofs.numbers.numbers_of.Goals as goal
 

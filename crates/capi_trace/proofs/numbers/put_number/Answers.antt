@@ -1,6 +1,5 @@
 -- `put_number` meets its contract.
 use mathlib.Core.Path.{sym}
-use borrow.Author.Rules.{rules}
 use lib.Seq.{set_out}
 use Rattle.capi_trace.proofs.numbers.put_number.Goals as goal
 

@@ -1,10 +1,8 @@
 -- `put_numbers` meets its contract: after k turns the first k numbers are put.
-use Prim.Native.Nat.{◌-◌, ◌≤◌}
 use mathlib.Core.Path.{◌≡◌, refl, ap, ◌∙◌}
 use native.Mathlib.Numerals.{add-one}
 use native.Mathlib.Omega.{arith}
-use borrow.Author.Rules.{rules}
-use lib.ListN.{length, take}
+use lib.ListN.{take}
 use lib.Seq.{take_all}
 use Rattle.capi_trace.specs.Numbers.{put_all}
 use Rattle.capi_trace.proofs.Putting.{put-more}
@@ -21,7 +19,7 @@ loop-i-preserved c =
     let put = c.put_number in (
       rw (add-one l.i) (put.ensures ∙ put-more a.numbers.now a.place a.row l.i l.numbers l.invariant.0 (omega arith)),
       omega arith,
-      put.auto.0 ∙ l.invariant.2,
+      put.auto.numbers ∙ l.invariant.2,
     )
 
 pub returns : goal.returns

@@ -1,13 +1,8 @@
 -- `put_numbers` meets its contract: after k turns the first k numbers are put.
 use Prim.Native.Nat.{◌-◌, ◌≤◌}
-use mathlib.Core.Path.{◌≡◌, refl, ap, ◌∙◌}
-use native.Mathlib.Numerals.{add-one}
-use native.Mathlib.Omega.{arith}
-use borrow.Author.Rules.{rules}
+use mathlib.Core.Path.{◌≡◌}
 use lib.ListN.{length, take}
-use lib.Seq.{take_all}
 use Rattle.capi_trace.specs.Numbers.{put_all}
-use Rattle.capi_trace.proofs.Putting.{put-more}
 use Rattle.capi_trace.proofs.numbers.put_numbers.Given as goal
 
 abbrev pub invariant-loop-i : goal.invariant-loop-i

@@ -1,10 +1,8 @@
 -- `put_page` meets its contract: after k turns the first k rows are put.
-use Prim.Native.Nat.{◌-◌, ◌≤◌}
 use mathlib.Core.Path.{◌≡◌, refl, ap, ◌∙◌}
 use native.Mathlib.Numerals.{add-one}
 use native.Mathlib.Omega.{arith}
-use borrow.Author.Rules.{rules}
-use lib.ListN.{length, take}
+use lib.ListN.{take}
 use Rattle.capi_trace.specs.Numbers.{put_rows}
 use Rattle.capi_trace.proofs.Putting.{put-row-more}
 use Rattle.capi_trace.proofs.numbers.put_page.Goals as goal
@@ -21,7 +19,7 @@ loop-put-preserved c =
       rw (add-one l.put) (put.ensures ∙ put-row-more a.numbers.now a.at a.rows l.put _ l.numbers l.invariant.0
           (omega arith)),
       omega arith,
-      put.auto.0 ∙ l.invariant.2,
+      put.auto.numbers ∙ l.invariant.2,
     )
 
 pub returns : goal.returns

@@ -1,12 +1,8 @@
 -- `put_page` meets its contract: after k turns the first k rows are put.
 use Prim.Native.Nat.{◌-◌, ◌≤◌}
-use mathlib.Core.Path.{◌≡◌, refl, ap, ◌∙◌}
-use native.Mathlib.Numerals.{add-one}
-use native.Mathlib.Omega.{arith}
-use borrow.Author.Rules.{rules}
+use mathlib.Core.Path.{◌≡◌}
 use lib.ListN.{length, take}
 use Rattle.capi_trace.specs.Numbers.{put_rows}
-use Rattle.capi_trace.proofs.Putting.{put-row-more}
 use Rattle.capi_trace.proofs.numbers.put_page.Given as goal
 
 abbrev pub invariant-loop-put : goal.invariant-loop-put

@@ -1,7 +1,5 @@
 -- `put_row` meets its contract.
 use mathlib.Core.Path.{ap, ◌∙◌}
-use native.Mathlib.Omega.{arith}
-use borrow.Author.Rules.{rules}
 use Prim.Native.Nat.{◌*◌}
 use Rattle.capi_trace.specs.Numbers.{put_all, put_row}
 use Rattle.capi_trace.proofs.numbers.put_row.Goals as goal

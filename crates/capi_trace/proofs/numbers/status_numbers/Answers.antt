@@ -1,6 +1,5 @@
 -- `status_numbers` meets its contract, by the status.
 use mathlib.Core.Path.{refl}
-use borrow.Author.Rules.{rules}
 use Rattle.capi_trace.proofs.numbers.status_numbers.Goals as goal
 
 pub returns-in-Idle : goal.returns-in-Idle
