@@ -1,6 +1,5 @@
 -- `write_looks` meets its contract: the line has room.
 use native.Mathlib.Omega.{arith}
-use borrow.Author.Rules.{rules}
 use mathlib.Core.Path.{◌∙◌}
 use Rattle.report.proofs.Lengths.{looks-whole}
 use Rattle.report.specs.Report.{looks_line}

@@ -1,5 +1,4 @@
 -- `put_counted` meets its contract, by the number.
-use borrow.Author.Rules.{rules}
 use borrow.Author.Tests.{ne_eqb}
 use Rattle.isa.specs.Text.{bytes}
 use Rattle.report.specs.Report.{counted}

@@ -1,6 +1,5 @@
 -- `write_report` meets its contract, by the answer.
 use native.Mathlib.Omega.{arith}
-use borrow.Author.Rules.{rules}
 use mathlib.Core.Path.{◌∙◌}
 use lib.Dec.{lit≤}
 use Rattle.isa.specs.Text.{bytes}

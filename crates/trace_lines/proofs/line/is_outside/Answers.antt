@@ -1,5 +1,4 @@
 -- `is_outside` meets its contract, by the status.
-use borrow.Author.Rules.{rules}
 use Rattle.trace_lines.proofs.line.is_outside.Goals as goal
 
 pub returns-in-Trapped : goal.returns-in-Trapped

@@ -1,5 +1,4 @@
 -- `put_hex` meets its contract: the digits, and a space behind them.
-use borrow.Author.Rules.{rules}
 use mathlib.Core.List.{[], ◌∷◌}
 use Rattle.isa.specs.Text.{bytes}
 use Rattle.text.specs.Buffer.{wrote}

@@ -1,5 +1,4 @@
 -- `put_label` meets its contract, by what the word is read as.
-use borrow.Author.Rules.{rules}
 use Rattle.isa.specs.Text.{bytes}
 use Rattle.listing.proofs.Lengths.{name-room, name-taken, name-count}
 use Rattle.listing.specs.Listing.{label}

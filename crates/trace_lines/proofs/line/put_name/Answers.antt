@@ -1,5 +1,4 @@
 -- `put_name` meets its contract, by whether a word was fetched.
-use borrow.Author.Rules.{rules}
 use Rattle.isa.specs.Text.{bytes}
 use Rattle.trace_lines.specs.Lines.{name_in}
 use Rattle.trace_lines.proofs.line.put_name.Goals as goal

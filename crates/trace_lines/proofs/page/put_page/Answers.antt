@@ -1,10 +1,9 @@
 -- `put_page` meets its contract: after k turns the lines of the first k rows stand in the buffer.
-use Prim.Native.Nat.{ℕ, ◌-◌, ◌≤◌}
+use Prim.Native.Nat.{ℕ}
 use mathlib.Core.Path.{◌≡◌, refl, ap, ◌∙◌}
 use native.Mathlib.Numerals.{add-one}
 use native.Mathlib.Omega.{arith}
-use borrow.Author.Rules.{rules}
-use lib.ListN.{length, take}
+use lib.ListN.{take}
 use Rattle.text.specs.Buffer.{wrote}
 use Rattle.text.specs.Parts.{puts_all}
 use Rattle.trace_lines.specs.Lines.{page_parts}

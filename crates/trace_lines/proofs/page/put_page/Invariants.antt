@@ -1,14 +1,10 @@
 -- `put_page` meets its contract: after k turns the lines of the first k rows stand in the buffer.
-use Prim.Native.Nat.{ℕ, ◌-◌, ◌≤◌}
-use mathlib.Core.Path.{◌≡◌, refl, ap, ◌∙◌}
-use native.Mathlib.Numerals.{add-one}
-use native.Mathlib.Omega.{arith}
-use borrow.Author.Rules.{rules}
+use Prim.Native.Nat.{◌≤◌}
+use mathlib.Core.Path.{◌≡◌}
 use lib.ListN.{length, take}
 use Rattle.text.specs.Buffer.{wrote}
 use Rattle.text.specs.Parts.{puts_all}
 use Rattle.trace_lines.specs.Lines.{page_parts}
-use Rattle.trace_lines.proofs.Pages.{page-more}
 use Rattle.trace_lines.proofs.page.put_page.Given as goal
 
 abbrev pub invariant-loop-put : goal.invariant-loop-put

@@ -1,7 +1,6 @@
 -- `write_page` meets its contract: the page has room.
 use mathlib.Core.Path.{◌∙◌}
 use native.Mathlib.Omega.{arith}
-use borrow.Author.Rules.{rules}
 use Rattle.trace_lines.proofs.Lengths.{page-whole}
 use Rattle.trace_lines.proofs.Pages.{all_shown}
 use Rattle.trace_lines.proofs.page.write_page.Goals as goal
