@@ -1,6 +1,5 @@
 -- `calls::kept_in` meets its contract.
 use Rattle.capi_night.specs.Calls.{kept_in}
-use borrow.Author.Rules.{rules}
 use borrow.Author.Tests.{eq-eqb, ne_eqb}
 use Rattle.capi_night.proofs.calls.kept_in.Goals as goal
 

@@ -2,7 +2,6 @@
 use Rattle.answer.specs.Refusal.{number_of}
 use Rattle.capi_night.proofs.Handed.{number-in-order, tick-handed}
 use Rattle.capi_night.specs.Calls.{minute_call}
-use borrow.Author.Rules.{rules}
 use lib.Dec.{eqb}
 use mathlib.Core.Bool.{not}
 use mathlib.Core.Path.{sym, ap, ◌∙◌}

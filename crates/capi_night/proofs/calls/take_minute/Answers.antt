@@ -1,6 +1,5 @@
 -- `calls::take_minute` meets its contract, by the answer.
 use Rattle.capi_night.proofs.Handed.{refused-handed, reported-handed}
-use borrow.Author.Rules.{rules}
 use Rattle.capi_night.proofs.calls.take_minute.Goals as goal
 
 pub returns-in-Refused : goal.returns-in-Refused
