@@ -35,10 +35,7 @@ fn read_program(rt: &(impl Env + Files + Eprint), bytes: &mut [u8; INPUT_BYTES])
     let Ok(length) = rt.arg(1, &mut name) else {
         return 0;
     };
-    let Ok(name) = str::from_utf8(&name[..length]) else {
-        return 0;
-    };
-    let filled = files::read_file(rt, name, bytes);
+    let filled = files::read_file(rt, &name[..length], bytes);
     if filled.failed {
         return 0;
     }
@@ -54,7 +51,7 @@ fn main(rt: HostRuntime) {
         files::write_stream(
             &rt,
             &mut io::writer(&rt),
-            "write standard output",
+            b"write standard output",
             b"refused 1\n",
         );
         return;

@@ -18,7 +18,7 @@ struct Served {
 }
 
 fn print(rt: &(impl Print + Eprint), text: &[u8]) -> bool {
-    files::write_stream(rt, &mut io::writer(rt), "write standard output", text)
+    files::write_stream(rt, &mut io::writer(rt), b"write standard output", text)
 }
 
 // A byte of input, and the text that it calls for.
@@ -92,7 +92,7 @@ fn serve_read<R: Read>(
         }
         Ok(n) => serve_bytes(rt, program, registers, memory, held, &buf[..n]),
         Err(error) => {
-            files::fail(rt, "read standard input", error);
+            files::fail(rt, b"read standard input", error);
             Served { held, more: false }
         }
     }

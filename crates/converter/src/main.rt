@@ -43,8 +43,8 @@ fn write_form(
 fn print(rt: &(impl Print + Eprint), form: Form) {
     let mut output = io::writer(rt);
     match form {
-        Form::Newest => write_stream(rt, &mut output, "write standard output", b"newest form\n"),
-        Form::Old => write_stream(rt, &mut output, "write standard output", b"old form\n"),
+        Form::Newest => write_stream(rt, &mut output, b"write standard output", b"newest form\n"),
+        Form::Old => write_stream(rt, &mut output, b"write standard output", b"old form\n"),
     };
 }
 
@@ -62,7 +62,7 @@ fn save_by(
     match answer {
         WriteAnswer::Refused(number) => refuse(rt, number),
         WriteAnswer::Written => {
-            if write_numbered_synced(rt, IMAGE_OUT, "write the image", image) {
+            if write_numbered_synced(rt, IMAGE_OUT, b"write the image", image) {
                 print(rt, form);
             }
         }
@@ -104,7 +104,7 @@ fn convert(rt: &(impl Files + Print + Eprint), settings: Settings, image: &[u8],
 
 fn load(rt: &(impl Input + Files + Print + Eprint), settings: Settings) {
     let mut image = [0u8; IMAGE_ROOM];
-    let filled = read_stream(rt, &mut rt.reader(), "read the image", &mut image);
+    let filled = read_stream(rt, &mut rt.reader(), b"read the image", &mut image);
     let length = filled.size;
     if filled.failed {
         return;
@@ -138,11 +138,11 @@ fn either(old: bool) -> Form {
 // Takes the arguments, two decimal numbers that the command gives: OLD DROP.
 fn main(rt: HostRuntime) {
     let Argument::Number(old) = number_at(&rt, 1) else {
-        complain(&rt, "the converter takes two numbers: old, drop");
+        complain(&rt, b"the converter takes two numbers: old, drop");
         return;
     };
     let Argument::Number(drop) = number_at(&rt, 2) else {
-        complain(&rt, "the converter takes two numbers: old, drop");
+        complain(&rt, b"the converter takes two numbers: old, drop");
         return;
     };
     load(

@@ -12,14 +12,14 @@ fn export(rt: &(impl Print + Eprint), words: &[u32]) {
     match answer {
         Exported::Refused(number) => files::refuse(rt, number),
         Exported::Length(length) => {
-            files::write_stream(rt, &mut io::writer(rt), "write the file", &text[..length]);
+            files::write_stream(rt, &mut io::writer(rt), b"write the file", &text[..length]);
         }
     }
 }
 
 fn main(rt: HostRuntime) {
     let mut bytes = [0u8; INPUT_BYTES];
-    let filled = files::read_stream(&rt, &mut rt.reader(), "read the program", &mut bytes);
+    let filled = files::read_stream(&rt, &mut rt.reader(), b"read the program", &mut bytes);
     let size = filled.size;
     if filled.failed {
         return;

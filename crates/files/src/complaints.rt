@@ -1,9 +1,18 @@
 // What goes to standard error: one line, which the command decides its exit status by.
 use std::fmt::InlineText;
-use std::io;
+use std::{io, str};
+
+// Standard error takes text: bytes that are none are shown as "?".
+fn shown(bytes: &[u8]) -> &str {
+    match str::from_utf8(bytes) {
+        Ok(text) => text,
+        Err(_) => "?",
+    }
+}
 
 // A line about the arguments.
-pub fn complain(rt: &impl Eprint, text: &str) {
+pub fn complain(rt: &impl Eprint, text: &[u8]) {
+    let text = shown(text);
     let _ = eprintln!(rt; "korvammel: {text}");
 }
 
@@ -16,7 +25,8 @@ fn words(text: &str) -> &str {
 }
 
 // A line about a stream that a call just failed on, with the system's reason.
-pub fn fail(rt: &impl Eprint, what: &str, error: io::Error) {
+pub fn fail(rt: &impl Eprint, what: &[u8], error: io::Error) {
+    let what = shown(what);
     let text = InlineText::<320>::of(error);
     let reason = words(text.as_str());
     let _ = eprintln!(rt; "korvammel: can't {what}: {reason}");

@@ -12,7 +12,7 @@ use std::rt::Files;
 pub fn read_numbered(
     rt: &(impl Files + Eprint),
     name: &str,
-    failure: &str,
+    failure: &[u8],
     buf: &mut [u8],
 ) -> Filled
     ensures { IsPrefixLen result.size buf.new }
@@ -30,7 +30,12 @@ pub fn read_numbered(
 }
 
 // Writes to such a stream, and answers whether all was written.
-pub fn write_numbered(rt: &(impl Files + Eprint), name: &str, failure: &str, bytes: &[u8]) -> bool {
+pub fn write_numbered(
+    rt: &(impl Files + Eprint),
+    name: &str,
+    failure: &[u8],
+    bytes: &[u8],
+) -> bool {
     match OpenOptions::new().write(true).open(rt, name) {
         Ok(mut file) => write_stream(rt, &mut file, failure, bytes),
         Err(error) => {
@@ -44,7 +49,7 @@ pub fn write_numbered(rt: &(impl Files + Eprint), name: &str, failure: &str, byt
 pub fn write_numbered_synced(
     rt: &(impl Files + Eprint),
     name: &str,
-    failure: &str,
+    failure: &[u8],
     bytes: &[u8],
 ) -> bool {
     match OpenOptions::new().write(true).open(rt, name) {

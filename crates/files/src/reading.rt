@@ -2,9 +2,9 @@
 ghost use Rattle.io.specs.Counts.{IsPrefixLen};
 
 use crate::complaints::fail;
-use std::fs;
 use std::io::Read;
 use std::rt::Files;
+use std::{fs, str};
 
 // How many bytes are at the start of a buffer. A failure has been complained of.
 #[derive(Clone, Copy)]
@@ -17,7 +17,7 @@ pub struct Filled {
 pub fn read_stream<R: Read>(
     rt: &impl Eprint,
     stream: &mut R,
-    failure: &str,
+    failure: &[u8],
     buf: &mut [u8],
 ) -> Filled
     ensures { IsPrefixLen result.size buf.new }
@@ -39,14 +39,19 @@ pub fn read_stream<R: Read>(
 }
 
 // Reads a file by its name: "in any program a file that will not open reads as empty" (document 02, T-10).
-pub fn read_file(rt: &(impl Files + Eprint), name: &str, buf: &mut [u8]) -> Filled
+pub fn read_file(rt: &(impl Files + Eprint), name: &[u8], buf: &mut [u8]) -> Filled
     ensures { IsPrefixLen result.size buf.new }
 {
-    let Ok(mut file) = fs::open(rt, name) else {
-        return Filled {
-            size: 0,
-            failed: false,
-        };
+    let none = Filled {
+        size: 0,
+        failed: false,
     };
-    read_stream(rt, &mut file, "read the file", buf)
+    // (std opens no file whose name is not text)
+    let Ok(name) = str::from_utf8(name) else {
+        return none;
+    };
+    let Ok(mut file) = fs::open(rt, name) else {
+        return none;
+    };
+    read_stream(rt, &mut file, b"read the file", buf)
 }

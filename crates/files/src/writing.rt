@@ -5,7 +5,7 @@ use std::fmt::InlineText;
 use std::fs::{OpenFile, OpenOptions};
 use std::io::Write;
 use std::rt::Files;
-use std::{fs, io};
+use std::{fs, io, str};
 
 // The longest name that a file may have.
 const NAME: usize = 4096;
@@ -16,7 +16,7 @@ const PART: usize = 5;
 pub fn write_stream<W: Write>(
     rt: &impl Eprint,
     stream: &mut W,
-    failure: &str,
+    failure: &[u8],
     bytes: &[u8],
 ) -> bool {
     match stream.write_all(bytes) {
@@ -35,7 +35,7 @@ pub fn write_words(rt: &(impl Print + Eprint), words: &[u32]) {
     write_stream(
         rt,
         &mut io::writer(rt),
-        "write the program",
+        b"write the program",
         &bytes[..length],
     );
 }
@@ -49,7 +49,7 @@ fn write_to_device<F: Write + OpenFile>(stream: &mut F, bytes: &[u8]) -> io::Res
 pub fn write_synced<F: Write + OpenFile>(
     rt: &impl Eprint,
     stream: &mut F,
-    failure: &str,
+    failure: &[u8],
     bytes: &[u8],
 ) -> bool {
     match write_to_device(stream, bytes) {
@@ -69,12 +69,12 @@ fn write_new(rt: &(impl Files + Eprint), part: &str, bytes: &[u8]) -> bool {
         .open(rt, part)
     {
         Ok(mut file) => {
-            if write_synced(rt, &mut file, "write the file", bytes) {
+            if write_synced(rt, &mut file, b"write the file", bytes) {
                 return true;
             }
         }
         Err(error) => {
-            fail(rt, "make a file beside the one to write", error);
+            fail(rt, b"make a file beside the one to write", error);
             return false;
         }
     }
@@ -90,7 +90,7 @@ fn write_part(rt: &(impl Files + Eprint), part: &str, name: &str, bytes: &[u8]) 
     match fs::rename(rt, part, name) {
         Ok(()) => true,
         Err(error) => {
-            fail(rt, "give the file its name", error);
+            fail(rt, b"give the file its name", error);
             let _ = fs::remove_file(rt, part);
             false
         }
@@ -98,11 +98,15 @@ fn write_part(rt: &(impl Files + Eprint), part: &str, name: &str, bytes: &[u8]) 
 }
 
 // Writes a file whole or not at all: under its name with .part behind it, which becomes its name once all is written.
-pub fn write_file(rt: &(impl Files + Eprint), name: &str, bytes: &[u8]) -> bool {
+pub fn write_file(rt: &(impl Files + Eprint), name: &[u8], bytes: &[u8]) -> bool {
     if NAME - PART < name.len() {
-        complain(rt, "can't write the file: its name is too long");
+        complain(rt, b"can't write the file: its name is too long");
         return false;
     }
+    let Ok(name) = str::from_utf8(name) else {
+        complain(rt, b"can't write the file: its name is no text");
+        return false;
+    };
     let part = InlineText::<NAME>::of(format_args!("{name}.part"));
     write_part(rt, part.as_str(), name, bytes)
 }

@@ -22,7 +22,7 @@ fn import(rt: &(impl Print + Eprint), text: &[u8]) {
 
 fn main(rt: HostRuntime) {
     let mut text = [0u8; ROOM];
-    let filled = files::read_stream(&rt, &mut rt.reader(), "read the file", &mut text);
+    let filled = files::read_stream(&rt, &mut rt.reader(), b"read the file", &mut text);
     let size = filled.size;
     if filled.failed {
         return;
@@ -30,7 +30,7 @@ fn main(rt: HostRuntime) {
     if LONGEST < size {
         files::complain(
             &rt,
-            "can't import the file: it has more than 1,048,576 bytes",
+            b"can't import the file: it has more than 1,048,576 bytes",
         );
         return;
     }

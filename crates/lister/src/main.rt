@@ -7,7 +7,7 @@ use std::io;
 
 fn main(rt: HostRuntime) {
     let mut input = [0u8; INPUT_BYTES];
-    let filled = files::read_stream(&rt, &mut rt.reader(), "read standard input", &mut input);
+    let filled = files::read_stream(&rt, &mut rt.reader(), b"read standard input", &mut input);
     let size = filled.size;
     if filled.failed {
         return;
@@ -17,7 +17,7 @@ fn main(rt: HostRuntime) {
     files::write_stream(
         &rt,
         &mut io::writer(&rt),
-        "write standard output",
+        b"write standard output",
         &text[..length],
     );
 }

@@ -21,7 +21,7 @@ fn print_page(rt: &(impl Print + Eprint), made: u32, rows: [Row; PAGE_ROWS], cou
     files::write_stream(
         rt,
         &mut io::writer(rt),
-        "write standard output",
+        b"write standard output",
         &text[..length],
     )
 }

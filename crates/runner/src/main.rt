@@ -29,7 +29,7 @@ const REPORT_OUT: &str = "/dev/fd/5";
 
 // Prints a part of the report, and answers whether that was written.
 fn write_out(rt: &(impl Files + Print + Eprint), settings: Settings, text: &[u8]) -> bool {
-    let failure = "write standard output";
+    let failure: &[u8] = b"write standard output";
     if settings.rows == 0 {
         return write_stream(rt, &mut io::writer(rt), failure, text);
     }
@@ -140,7 +140,7 @@ fn begin(rt: &(impl Files + Print + Eprint), settings: Settings, program: &[u32]
 fn read_one(
     rt: &(impl Input + Files + Eprint),
     standard: bool,
-    failure: &str,
+    failure: &[u8],
     buf: &mut [u8],
 ) -> Filled
     ensures { IsPrefixLen result.size buf.new }
@@ -173,7 +173,7 @@ fn restore(
 
 fn resume(rt: &(impl Input + Files + Print + Eprint), settings: Settings, program: &[u32]) {
     let mut image = [0u8; IMAGE_ROOM];
-    let filled = read_one(rt, settings.image_first, "read the image", &mut image);
+    let filled = read_one(rt, settings.image_first, b"read the image", &mut image);
     let length = filled.size;
     if filled.failed {
         return;
@@ -199,7 +199,7 @@ fn go_on(rt: &(impl Input + Files + Print + Eprint), settings: Settings, program
 // Reads the program, and goes on with it.
 fn load(rt: &(impl Input + Files + Print + Eprint), settings: Settings) {
     let mut bytes = [0u8; INPUT_BYTES];
-    let filled = read_one(rt, !settings.image_first, "read the program", &mut bytes);
+    let filled = read_one(rt, !settings.image_first, b"read the program", &mut bytes);
     let size = filled.size;
     if filled.failed {
         return;

@@ -27,7 +27,7 @@ fn save_by(
             refuse(rt, number);
             false
         }
-        WriteAnswer::Written => write_numbered_synced(rt, IMAGE_OUT, "write the image", image),
+        WriteAnswer::Written => write_numbered_synced(rt, IMAGE_OUT, b"write the image", image),
     }
 }
 

@@ -32,7 +32,7 @@ fn number_at(rt: &impl Env, i: usize) -> Argument {
 fn missing(rt: &impl Eprint) -> Settings {
     complain(
         rt,
-        "the runner takes eight numbers: mask, memory, budget, resume, save, looks, rows, rest",
+        b"the runner takes eight numbers: mask, memory, budget, resume, save, looks, rows, rest",
     );
     Settings {
         mask: 0,
