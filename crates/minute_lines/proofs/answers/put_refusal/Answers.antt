@@ -4,7 +4,6 @@ use Rattle.minute_lines.specs.Answers.{refusal_parts}
 use Rattle.text.proofs.Parts.{after}
 use Rattle.text.specs.Buffer.{wrote}
 use Rattle.text.specs.Number.{decimal}
-use borrow.Author.Rules.{rules}
 use mathlib.Core.List.{[], ◌∷◌, ◌++◌}
 use Rattle.minute_lines.proofs.answers.put_refusal.Goals as goal
 

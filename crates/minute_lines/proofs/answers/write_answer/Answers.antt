@@ -1,7 +1,6 @@
 -- `answers::write_answer` meets its contract: the text has room.
 use native.Mathlib.Omega.{arith}
 use Rattle.minute_lines.proofs.Texts.{report-whole, refusal-whole}
-use borrow.Author.Rules.{rules}
 use mathlib.Core.Path.{◌∙◌}
 use Rattle.minute_lines.proofs.answers.write_answer.Goals as goal
 

@@ -1,6 +1,5 @@
 -- `parsing::minute_in` meets its contract, by what was read.
 use Rattle.minute_lines.specs.Parsing.{reading_in}
-use borrow.Author.Rules.{rules}
 use Rattle.minute_lines.proofs.parsing.minute_in.Goals as goal
 
 pub returns-in-Empty : goal.returns-in-Empty

@@ -1,7 +1,6 @@
 -- `parsing::with_byte` meets its contract, by what was read and by the byte.
 use Rattle.minute_lines.specs.Parsing.{with_byte}
 use Rattle.minute_lines.specs.Types.{Line, Digits}
-use borrow.Author.Rules.{rules}
 use borrow.Author.Tests.{eq-eqb, ne_eqb}
 use mathlib.Core.Path.{sym, ap, ◌∙◌}
 use Rattle.minute_lines.proofs.parsing.with_byte.Goals as goal

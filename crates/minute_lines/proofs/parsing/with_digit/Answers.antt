@@ -1,7 +1,6 @@
 -- `parsing::with_digit` meets its contract.
 use mathlib.Core.Bool.{Bool, true, false, ◌&&◌}
 use mathlib.Core.Path.{◌≡◌, refl}
-use borrow.Author.Rules.{rules}
 use borrow.Author.Tests.{lt-ltb, le-ltb, leb-true}
 use lib.Dec.{leb}
 use Rattle.minute_lines.proofs.parsing.with_digit.Goals as goal

@@ -1,6 +1,5 @@
 -- `taking::end_line` meets its contract.
 use Rattle.minute_lines.proofs.Steps.{line-ended}
-use borrow.Author.Rules.{rules}
 use Rattle.minute_lines.proofs.taking.end_line.Goals as goal
 
 pub returns : goal.returns

@@ -1,7 +1,6 @@
 -- `taking::take_byte` meets its contract.
 use Rattle.minute_lines.proofs.Steps.{byte-added}
 use Rattle.minute_lines.specs.Taking.{held, take_byte}
-use borrow.Author.Rules.{rules}
 use borrow.Author.Tests.{eq-eqb}
 use Rattle.minute_lines.proofs.taking.take_byte.Goals as goal
 

@@ -1,7 +1,6 @@
 -- `taking::take_end` meets its contract.
 use Rattle.minute_lines.proofs.Steps.{nothing_left}
 use Rattle.minute_lines.specs.Taking.{held, take_end}
-use borrow.Author.Rules.{rules}
 use mathlib.Core.Path.{sym, ◌∙◌}
 use Rattle.minute_lines.proofs.taking.take_end.Goals as goal
 

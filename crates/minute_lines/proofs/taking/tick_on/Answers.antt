@@ -2,7 +2,6 @@
 use Rattle.machine.specs.State.{State, state}
 use Rattle.minute_lines.specs.Line.{given}
 use Rattle.minute_lines.specs.Taking.{tick_on}
-use borrow.Author.Rules.{rules}
 use mathlib.Core.Path.{sym, ap, ◌∙◌}
 use Rattle.minute_lines.proofs.taking.tick_on.Goals as goal
 
