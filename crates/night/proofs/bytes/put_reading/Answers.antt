@@ -1,7 +1,6 @@
 -- `bytes::put_reading` meets its contract.
 use lib.ListN.{length-set}
 use native.Mathlib.Omega.{arith}
-use borrow.Author.Rules.{rules}
 use Rattle.night.specs.Bytes.{with_reading}
 use Rattle.night.proofs.Stored.{first-eight}
 use Rattle.night.proofs.bytes.put_reading.Goals as goal

@@ -1,6 +1,5 @@
 -- `bytes::relays` meets its contract.
 use lib.ListN.{get_or}
-use borrow.Author.Rules.{rules}
 use Rattle.night.specs.Bytes.{relays_in}
 use Rattle.night.proofs.Stored.{low_half}
 use Rattle.night.proofs.bytes.relays.Goals as goal

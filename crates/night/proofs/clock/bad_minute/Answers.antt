@@ -1,5 +1,4 @@
 -- `clock::bad_minute` meets its contract.
-use borrow.Author.Rules.{rules}
 use Rattle.night.proofs.clock.bad_minute.Goals as goal
 
 pub returns : goal.returns

@@ -1,6 +1,5 @@
 -- `clock::clock_verdict` meets its contract: the tests in order.
 use mathlib.Core.Path.{sym, ◌∙◌}
-use borrow.Author.Rules.{rules}
 use Rattle.night.proofs.Refusals.{small-number, minute-number, no_number}
 use Rattle.night.proofs.clock.clock_verdict.Goals as goal
 

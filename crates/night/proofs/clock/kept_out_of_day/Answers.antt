@@ -1,5 +1,4 @@
 -- `clock::kept_out_of_day` meets its contract.
-use borrow.Author.Rules.{rules}
 use Rattle.night.proofs.clock.kept_out_of_day.Goals as goal
 
 pub returns-in-Minute : goal.returns-in-Minute

@@ -1,6 +1,5 @@
 -- `clock::skipped_minutes` meets its contract.
 use native.Mathlib.Omega.{arith}
-use borrow.Author.Rules.{rules}
 use borrow.Author.Tests.{eqb-false}
 use lib.Dec.{eqb}
 use Rattle.machine.proofs.Tests.{neither}

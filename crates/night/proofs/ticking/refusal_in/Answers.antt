@@ -1,5 +1,4 @@
 -- `ticking::refusal_in` meets its contract.
-use borrow.Author.Rules.{rules}
 use Rattle.night.proofs.ticking.refusal_in.Goals as goal
 
 pub returns-in-Refused : goal.returns-in-Refused

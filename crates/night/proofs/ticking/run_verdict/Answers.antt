@@ -1,6 +1,5 @@
 -- `ticking::run_verdict` meets its contract: a run with no budget tells the run's number, and changes nothing.
 use mathlib.Core.Path.{◌∙◌}
-use borrow.Author.Rules.{rules}
 use Rattle.machine.specs.State.{State, state}
 use Rattle.night.proofs.Ticks.{number-told, registers-stay, memory-stays}
 use Rattle.night.proofs.ticking.run_verdict.Goals as goal

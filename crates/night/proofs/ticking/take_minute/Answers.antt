@@ -1,5 +1,4 @@
 -- `ticking::take_minute` meets its contract.
-use borrow.Author.Rules.{rules}
 use Rattle.machine.specs.State.{State, state}
 use Rattle.night.proofs.Ticks.{accepted-is}
 use Rattle.night.proofs.ticking.take_minute.Goals as goal

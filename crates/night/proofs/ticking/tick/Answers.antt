@@ -1,6 +1,5 @@
 -- `ticking::tick` meets its contract: by the verdict, which changed nothing.
 use mathlib.Core.Path.{sym, ap, ◌∙◌}
-use borrow.Author.Rules.{rules}
 use Rattle.answer.specs.Refusal.{number_of}
 use Rattle.machine.specs.State.{State, state}
 use Rattle.night.proofs.Refusals.{tick-taken}

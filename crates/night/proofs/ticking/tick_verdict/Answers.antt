@@ -1,6 +1,5 @@
 -- `ticking::tick_verdict` meets its contract: the clock's number, or the run's.
 use mathlib.Core.Path.{refl, sym, ap, ◌∙◌}
-use borrow.Author.Rules.{rules}
 use Rattle.answer.specs.Refusal.{number_of}
 use Rattle.machine.specs.State.{State, state}
 use Rattle.night.proofs.Refusals.{clock-number, run-number}
