@@ -42,16 +42,13 @@ pub fn read_stream<R: Read>(
 pub fn read_file(rt: &(impl Files + Eprint), name: &[u8], buf: &mut [u8]) -> Filled
     ensures { IsPrefixLen result.size buf.new }
 {
-    let none = Filled {
-        size: 0,
-        failed: false,
-    };
     // (std opens no file whose name is not text)
-    let Ok(name) = str::from_utf8(name) else {
-        return none;
-    };
+    let name = str::from_utf8(name).unwrap_or("");
     let Ok(mut file) = fs::open(rt, name) else {
-        return none;
+        return Filled {
+            size: 0,
+            failed: false,
+        };
     };
     read_stream(rt, &mut file, b"read the file", buf)
 }
