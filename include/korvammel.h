@@ -4,8 +4,8 @@
  * this table. Where it answers a number of the table, every lent array holds what it held before, except where the function says
  * otherwise. (korvammel_name answers a length.)
  *
- * The library is for x86-64 Linux, in C's own calling convention there. A call needs at most 3,584 bytes of stack (a traced run; on
- * words 3,328, the others under 1,536), but for korvammel_assemble, which says its own. It uses the red zone, the 128 bytes below the
+ * The library is for x86-64 Linux, in C's own calling convention there. A call needs at most 3,712 bytes of stack (on words; a
+ * traced run 2,944, the others under 2,048), but for korvammel_assemble, which says its own. It uses the red zone, the 128 bytes below the
  * stack pointer, which are among these: an interrupt that comes in on the same stack has to leave them alone. Of the C library it calls
  * memset alone.
  *
