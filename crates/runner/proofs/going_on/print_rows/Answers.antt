@@ -1,7 +1,5 @@
 -- `going_on::print_rows` is safe, and ends: each page leaves fewer issues.
-use mathlib.Core.Path.{◌≡◌, refl, ◌∙◌}
-use native.Mathlib.Omega.{arith}
-use lib.ListN.{length}
+use mathlib.Core.Path.{refl, ◌∙◌}
 use Rattle.runner.proofs.going_on.print_rows.Goals as goal
 
 pub loop-left-preserved : goal.loop-left-preserved
