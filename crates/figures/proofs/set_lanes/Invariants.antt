@@ -1,7 +1,6 @@
 -- `set_lanes` is safe: the register file keeps its length.
 use Prim.Native.Nat.{◌-◌, ◌≤◌}
 use mathlib.Core.Path.{◌≡◌}
-use borrow.Author.Rules.{rules}
 use lib.ListN.{length}
 use Rattle.figures.proofs.set_lanes.Given as goal
 

@@ -14,5 +14,5 @@ within looks l r b e = text-within l (looks_line looks) r b e
 pub slice_bounds-text-end : goal.slice_bounds-text-end
 slice_bounds-text-end g c = within _ _ _ _ c.write_looks-length.ensures
 
-pub slice_bounds-write_stream-end-2 : goal.slice_bounds-write_stream-end-2
-slice_bounds-write_stream-end-2 g c = shown _ _ (within _ _ _ _ c.write_looks-length.ensures)
+pub slice_bounds-write_out-end : goal.slice_bounds-write_out-end
+slice_bounds-write_out-end g c = shown _ _ (within _ _ _ _ c.write_looks-length.ensures)

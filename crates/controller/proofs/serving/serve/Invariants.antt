@@ -1,5 +1,4 @@
 -- `serving::serve` is safe and ends: the measure is the number of reads that are left.
-use native.Mathlib.Omega.{arith}
 use Rattle.controller.proofs.serving.serve.Given as goal
 
 abbrev pub invariant-loop-reads : goal.invariant-loop-reads

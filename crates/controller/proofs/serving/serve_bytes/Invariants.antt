@@ -1,7 +1,6 @@
 -- `serving::serve_bytes` is safe and ends: the measure is what is left of the bytes.
 use Prim.Native.Nat.{◌-◌, ◌≤◌}
 use lib.ListN.{length}
-use native.Mathlib.Omega.{arith}
 use Rattle.controller.proofs.serving.serve_bytes.Given as goal
 
 abbrev pub invariant-loop-i : goal.invariant-loop-i

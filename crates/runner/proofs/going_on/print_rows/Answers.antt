@@ -1,14 +1,12 @@
 -- `going_on::print_rows` is safe, and ends: each page leaves fewer issues.
-use mathlib.Core.Path.{◌≡◌, refl, ◌∙◌}
-use native.Mathlib.Omega.{arith}
-use lib.ListN.{length}
+use mathlib.Core.Path.{refl, ◌∙◌}
 use Rattle.runner.proofs.going_on.print_rows.Goals as goal
 
 pub loop-left-preserved : goal.loop-left-preserved
 loop-left-preserved g c =
     let page = c.run_page-page in
     let l = c.loop-left in
-    (page.auto.1.0 ∙ l.invariant.0, page.auto.1.1.0 ∙ l.invariant.1)
+    (page.auto.registers ∙ l.invariant.0, page.auto.memory ∙ l.invariant.1)
 
 pub loop-left-init : goal.loop-left-init
 loop-left-init g c = (refl, refl)

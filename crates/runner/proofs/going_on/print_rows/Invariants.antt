@@ -1,6 +1,5 @@
 -- `going_on::print_rows` is safe, and ends: each page leaves fewer issues.
-use mathlib.Core.Path.{◌≡◌, refl, ◌∙◌}
-use native.Mathlib.Omega.{arith}
+use mathlib.Core.Path.{◌≡◌}
 use lib.ListN.{length}
 use Rattle.runner.proofs.going_on.print_rows.Given as goal
 
