@@ -1,9 +1,9 @@
 -- When the table gives a number (document 01, "Numbers given back").
-use Rattle.std.specs.Prelude.{ℕ, ◌+◌, ◌*◌, ◌/◌, ◌%◌, Bool, ◌||◌, not, cond, List, [], ◌∷◌, ltb, eqb}
+use Rattle.std.specs.Prelude.{ℕ, Result, Ok, Err, ◌+◌, ◌*◌, ◌/◌, ◌%◌, Bool, ◌||◌, not, cond, List, [], ◌∷◌, ltb, eqb}
 use Rattle.std.proofs.Math.Option.{Option, none, some}
-use Rattle.answer.specs.Answer.{bad-program, bad-registers, bad-memory, bad-length}
-use Rattle.answer.specs.declared.refusal.Verdict.{Verdict}
-use Rattle.answer.specs.declared.refusal.Verdict.TheVariants.{Accepted, Refused}
+use Rattle.answer.specs.Answer.{bad-program, bad-registers, bad-memory, bad-record, bad-mask, no_word, undefined, not-fitted, bad-length, bad-image, counts-lost, bad-source, bad-label, too_large, bad-hex-record, bad-hex-order, bad-hex-end, short-buffer, bad-minute, small-memory}
+use Rattle.answer.specs.declared.refusal.Refusal.{Refusal}
+use Rattle.answer.specs.declared.refusal.Refusal.TheVariants as V
 
 -- "Program: 1 to 16,384 words", "Register room: 8,704 lent words."
 abbrev pub program_words : ℕ
@@ -89,10 +89,33 @@ size_checks fixed registers bytes size =
 unfoldable pub sizes_number : ℕ → ℕ → ℕ → ℕ → Option ℕ
 sizes_number fixed registers bytes size = first_that_applies (size_checks fixed registers bytes size)
 
--- the number of a refused call, as the code says it
-abbrev pub number_of : Verdict → Option ℕ
-number_of Accepted = none
-number_of (Refused number) = some number
+-- the table's number of a refusal, as the code names it
+abbrev pub row_of : Refusal → ℕ
+row_of V.Program = bad-program
+row_of V.Registers = bad-registers
+row_of V.Memory = bad-memory
+row_of V.Record = bad-record
+row_of V.Mask = bad-mask
+row_of V.NoWord = no_word
+row_of V.Undefined = undefined
+row_of V.NotFitted = not-fitted
+row_of V.Length = bad-length
+row_of V.Image = bad-image
+row_of V.CountsLost = counts-lost
+row_of V.Source = bad-source
+row_of V.Label = bad-label
+row_of V.TooLarge = too_large
+row_of V.HexRecord = bad-hex-record
+row_of V.HexOrder = bad-hex-order
+row_of V.HexEnd = bad-hex-end
+row_of V.ShortBuffer = short-buffer
+row_of V.Minute = bad-minute
+row_of V.SmallMemory = small-memory
+
+-- the number of a refused call
+abbrev pub number_of : Result Unit Refusal → Option ℕ
+number_of (Ok _) = none
+number_of (Err refusal) = some (row_of refusal)
 
 -- what a call gives: one thing if it is refused, by its number, and another if it is not
 abbrev pub refused_or : {A : Type 0} → Option ℕ → (ℕ → A) → A → A

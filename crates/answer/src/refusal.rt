@@ -1,13 +1,79 @@
-// What a call is refused for: the tests of document 01's table.
+// What a call is refused for: the rows of document 01's table, and the tests that find one.
 ghost use Rattle.std.specs.Prelude.{◌≤◌, ◌≡◌};
 ghost use Rattle.std.proofs.Math.Option.{some};
-ghost use Rattle.answer.specs.Refusal.{memory_bytes, bad_program, bad_registers, bad_memory, bad_mask, bad_length, number_of, refused_or, lengths_number, sizes_number};
+ghost use Rattle.answer.specs.Refusal.{memory_bytes, bad_program, bad_registers, bad_memory, bad_mask, bad_length, row_of, number_of, refused_or, lengths_number, sizes_number};
 
-// What a call's checks say; Refused carries a number of the table.
-#[derive(Clone, Copy)]
-pub enum Verdict {
-    Accepted,
-    Refused(u8),
+use std::error::Error;
+use std::fmt;
+
+// A row of the table "Numbers given back". The table's number of each is `number`.
+#[derive(Clone, Copy, Debug, PartialEq, Eq)]
+pub enum Refusal {
+    Program,
+    Registers,
+    Memory,
+    Record,
+    Mask,
+    NoWord,
+    Undefined,
+    NotFitted,
+    Length,
+    Image,
+    CountsLost,
+    Source,
+    Label,
+    TooLarge,
+    HexRecord,
+    HexOrder,
+    HexEnd,
+    ShortBuffer,
+    Minute,
+    SmallMemory,
+}
+
+impl Refusal {
+    // Its number.
+    pub fn number(self) -> u8
+        ensures { result ≡ row_of self }
+    {
+        match self {
+            Refusal::Program => 1,
+            Refusal::Registers => 2,
+            Refusal::Memory => 3,
+            Refusal::Record => 4,
+            Refusal::Mask => 5,
+            Refusal::NoWord => 6,
+            Refusal::Undefined => 7,
+            Refusal::NotFitted => 8,
+            Refusal::Length => 9,
+            Refusal::Image => 10,
+            Refusal::CountsLost => 11,
+            Refusal::Source => 12,
+            Refusal::Label => 13,
+            Refusal::TooLarge => 14,
+            Refusal::HexRecord => 15,
+            Refusal::HexOrder => 16,
+            Refusal::HexEnd => 17,
+            Refusal::ShortBuffer => 18,
+            Refusal::Minute => 19,
+            Refusal::SmallMemory => 20,
+        }
+    }
+}
+
+impl fmt::Display for Refusal {
+    fn fmt<W: fmt::Write>(&self, f: &mut fmt::Formatter<W>) -> fmt::Result {
+        write!(f, "refused: {}", self.number())
+    }
+}
+
+impl Error for Refusal {}
+
+// A refusal, and the line of a text that it names; line 0 where it names none.
+#[derive(Clone, Copy, Debug, PartialEq, Eq)]
+pub struct RefusedLine {
+    pub refusal: Refusal,
+    pub line: usize,
 }
 
 // The most words of a program, and the words of a register file.
@@ -49,32 +115,26 @@ pub fn bad_mask(mask: u32) -> bool
 }
 
 // The first of two verdicts that refuses.
-pub fn first_refusal(first: Verdict, then: Verdict) -> Verdict
+pub fn first_refusal(first: Result<(), Refusal>, then: Result<(), Refusal>) -> Result<(), Refusal>
     ensures { number_of result ≡ refused_or (number_of first) some (number_of then) }
 {
-    match first {
-        Verdict::Accepted => then,
-        Verdict::Refused(number) => Verdict::Refused(number),
-    }
+    first.and(then)
 }
 
-// The number that a run's lengths are refused with, if any: of the words of a program and of a register file, and the bytes of a memory.
-pub fn lengths_verdict(words: usize, registers: usize, bytes: usize) -> Verdict
+// Refuses a run's lengths, if one is not allowed: the words of a program and of a register file, and the bytes of a memory.
+pub fn lengths_verdict(words: usize, registers: usize, bytes: usize) -> Result<(), Refusal>
     ensures { number_of result ≡ lengths_number words registers bytes }
 {
-    let wrong_program = bad_program(words);
-    let wrong_registers = bad_registers(registers);
-    let wrong_memory = bad_memory(bytes);
-    if wrong_program {
-        return Verdict::Refused(1);
+    if bad_program(words) {
+        return Err(Refusal::Program);
     }
-    if wrong_registers {
-        return Verdict::Refused(2);
+    if bad_registers(registers) {
+        return Err(Refusal::Registers);
     }
-    if wrong_memory {
-        return Verdict::Refused(3);
+    if bad_memory(bytes) {
+        return Err(Refusal::Memory);
     }
-    Verdict::Accepted
+    Ok(())
 }
 
 // The fixed part of an image's length, that of the old form, and the bytes of the record of a block of memory.
@@ -92,22 +152,19 @@ fn bad_length(fixed: u32, bytes: usize, size: usize) -> bool
     size != fixed as usize + BLOCK_RECORD * (bytes / BLOCK_BYTES)
 }
 
-// The number that an image's call is refused with, if any: of the fixed part of its length, the words of a register file, the bytes
-// of a memory, and those of an image.
-pub fn sizes_verdict(fixed: u32, registers: usize, bytes: usize, size: usize) -> Verdict
+// Refuses an image's call, if a length is not allowed: the words of a register file, the bytes of a memory, and those of an image, of
+// which the fixed part is given.
+pub fn sizes_verdict(fixed: u32, registers: usize, bytes: usize, size: usize) -> Result<(), Refusal>
     ensures { number_of result ≡ sizes_number fixed registers bytes size }
 {
-    let wrong_registers = bad_registers(registers);
-    let wrong_memory = bad_memory(bytes);
-    if wrong_registers {
-        return Verdict::Refused(2);
+    if bad_registers(registers) {
+        return Err(Refusal::Registers);
     }
-    if wrong_memory {
-        return Verdict::Refused(3);
+    if bad_memory(bytes) {
+        return Err(Refusal::Memory);
     }
-    let wrong_length = bad_length(fixed, bytes, size);
-    if wrong_length {
-        return Verdict::Refused(9);
+    if bad_length(fixed, bytes, size) {
+        return Err(Refusal::Length);
     }
-    Verdict::Accepted
+    Ok(())
 }
