@@ -122,6 +122,7 @@ pub fn first_refusal(first: Result<(), Refusal>, then: Result<(), Refusal>) -> R
 }
 
 // Refuses a run's lengths, if one is not allowed: the words of a program and of a register file, and the bytes of a memory.
+#[tactic(auto, unfolding(crate::specs::Refusal::lengths_number, crate::specs::Refusal::first_that_applies))]
 pub fn lengths_verdict(words: usize, registers: usize, bytes: usize) -> Result<(), Refusal>
     ensures { number_of result ≡ lengths_number words registers bytes }
 {
@@ -154,6 +155,7 @@ fn bad_length(fixed: u32, bytes: usize, size: usize) -> bool
 
 // Refuses an image's call, if a length is not allowed: the words of a register file, the bytes of a memory, and those of an image, of
 // which the fixed part is given.
+#[tactic(auto, using(crate::proofs::Lengths::memory_most), unfolding(crate::specs::Refusal::sizes_number, crate::specs::Refusal::first_that_applies))]
 pub fn sizes_verdict(fixed: u32, registers: usize, bytes: usize, size: usize) -> Result<(), Refusal>
     ensures { number_of result ≡ sizes_number fixed registers bytes size }
 {

@@ -10,7 +10,7 @@ use lib.Dec.{ltb, eqb}
 use lib.ListN.{length}
 use Rattle.answer.specs.Answer.{given, refused}
 use Rattle.answer.proofs.Checks.{passed, first-after, either-given}
-use Rattle.answer.proofs.Lengths.{memory-most}
+use Rattle.answer.proofs.Lengths.{memory_most}
 use Rattle.answer.specs.Refusal.{bad_registers, bad_memory, image_length, bad_length, first_that_applies, size_checks, sizes_number, refused_or}
 use Rattle.machine.specs.State.{State}
 use Rattle.machine.proofs.Tests.{neither}
@@ -30,7 +30,7 @@ pub record Sized (f : Form) (room bytes size : ℕ) : Type 0 where
   pub length : bad_length (fixed_of f) bytes size ≡ false
 
 pub memory-blocks : (bytes : ℕ) → bad_memory bytes ≡ false → bytes / 64 ≤ 1024
-memory-blocks bytes h = omega (arith, memory-most bytes h)
+memory-blocks bytes h = omega (arith, memory_most bytes h)
 
 pub memory-whole : (bytes : ℕ) → bad_memory bytes ≡ false → 64 * (bytes / 64) ≡ bytes
 memory-whole bytes h = omega (arith, eqb-true (bytes % 64) 0 (not-false (eqb (bytes % 64) 0) (neither (ltb bytes 64 || ltb 65536 bytes) (not (eqb (bytes % 64) 0)) h).1))
