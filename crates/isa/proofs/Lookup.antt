@@ -1,23 +1,26 @@
--- Looking an opcode up in a table: what it finds where no operation has the opcode.
-use Rattle.std.proofs.Common.{◌≡◌, ℕ, Bool, true, false, eqb, List, [], ◌∷◌, sym, refl, arith, ne_eqb, eqb-true}
+-- Looking an opcode up in a table: what the code does with what it finds, and the opcode of what is found.
+use Rattle.std.proofs.Common.{◌≡◌, ℕ, Bool, true, false, eqb, List, [], ◌∷◌, sym, refl, arith, eqb-true}
+use Rattle.std.specs.Prelude as code
 use mathlib.Core.Option.{none, some}
+use Rattle.answer.specs.Answer.{refused, undefined}
+use Rattle.isa.specs.Answer.{reading}
+use Rattle.isa.specs.Found as Found
 use Rattle.isa.specs.Table.{OpcodeRow, find}
+use Rattle.isa.specs.Types.{Instruction, Unreadable, Undefined}
 
-module _ {A : Type 0} (row_of : A → OpcodeRow) (o : ℕ) where
-  -- the opcode is none of theirs, in the form in which a `match` says it: after what is known of the earlier ones
-  abbrev pub Absent : Type 0 → List A → Type 0
-  Absent P [] = P
-  Absent P (op ∷ ops) = Absent (P × (o ≡ (row_of op).opcode → ⊥)) ops
+-- what is found, and what the code does where nothing is: it refuses with `Undefined`
+pub op-of : {A : Type 0} (o : code.Option A) (op : A) → ◌≡◌ {A = code.Result A Unreadable} (code.Ok op) (code.ok_or o Undefined) → Found.found o ≡ some op
+op-of (code.Some x) op e = cc
+op-of code.None op e = cc
 
-  earlier : (P : Type 0) (ops : List A) → Absent P ops → P
-  earlier P [] h = h
-  earlier P (op ∷ ops) h = (earlier (P × (o ≡ (row_of op).opcode → ⊥)) ops h).0
-
-  pub absent : (P : Type 0) (ops : List A) → Absent P ops → none ≡ find row_of ops o
-  unfolding find
-  absent P [] h = refl
-  absent P (op ∷ ops) h =
-      rw (ne_eqb o (row_of op).opcode (earlier (P × (o ≡ (row_of op).opcode → ⊥)) ops h).1, find) (absent (P × (o ≡ (row_of op).opcode → ⊥)) ops h)
+pub none-of : {A : Type 0} (o : code.Option A) (x : Unreadable) → ◌≡◌ {A = code.Result A Unreadable} (code.Err x) (code.ok_or o Undefined) →
+    (Found.found o ≡ none) × ((r : code.Result Instruction Unreadable) → code.IsErr r × code.IsErrAnd r (λ y. y ≡ x) → reading r ≡ refused undefined)
+none-of (code.Some y) x e = cc
+none-of code.None x e = (refl, refuses)
+  where
+    refuses : (r : code.Result Instruction Unreadable) → code.IsErr r × code.IsErrAnd r (λ y. y ≡ x) → reading r ≡ refused undefined
+    refuses (code.Ok i) h = absurd h.1
+    refuses (code.Err y) h = let z : y ≡ Undefined = cc in rw z
 
 -- the operation found has the opcode
 pub found : {A : Type 0} (row_of : A → OpcodeRow) (ops : List A) (o : ℕ) (op : A) → find row_of ops o ≡ some op → (row_of op).opcode ≡ o

@@ -4,8 +4,6 @@ use Rattle.std.proofs.Math.Option.{Option, none, some}
 use Rattle.isa.specs.Rule.{has_immediate}
 use Rattle.isa.specs.Table.{operation_at, table_r, table_movei, table_j, table_c, table_m}
 use Rattle.isa.specs.Types.{Operation, Instruction, R, I, Movei, J, C, M}
-use Rattle.isa.specs.declared.template.Template.{Template}
-use Rattle.isa.specs.declared.template.Template.TheVariants.{Is, NoTemplate}
 
 abbrev pub made : {A : Type 0} → (A → Instruction) → Option A → Option Instruction
 made f none = none
@@ -24,8 +22,3 @@ template_at f o =
     (cond (f == 3) (made (λ op. J op 0 0) (operation_at table_j o))
     (cond (f == 4) (made (λ op. C op 0 0) (operation_at table_c o))
     (cond (f == 5) (made (λ op. M op 0 0 0) (operation_at table_m o)) none)))))
-
--- the code's answer
-abbrev pub template_in : Template → Option Instruction
-template_in (Is i) = some i
-template_in NoTemplate = none

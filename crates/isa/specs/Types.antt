@@ -18,7 +18,5 @@ pub use Rattle.isa.specs.declared.instruction.MemoryOp.{MemoryOp}
 pub use Rattle.isa.specs.declared.instruction.MemoryOp.TheVariants.{Load, Store, LoadVector, StoreVector}
 pub use Rattle.isa.specs.declared.instruction.Instruction.{Instruction}
 pub use Rattle.isa.specs.declared.instruction.Instruction.TheVariants.{R, I, Movei, J, C, M}
-pub use Rattle.isa.specs.declared.instruction.Reading.{Reading}
-pub use Rattle.isa.specs.declared.instruction.Reading.TheVariants.{Defined, Undefined, NotFitted}
-pub use Rattle.isa.specs.declared.instruction.Writing.{Writing}
-pub use Rattle.isa.specs.declared.instruction.Writing.TheVariants.{Word, NoWord}
+pub use Rattle.isa.specs.declared.instruction.Unreadable.{Unreadable}
+pub use Rattle.isa.specs.declared.instruction.Unreadable.TheVariants.{Undefined, NotFitted}

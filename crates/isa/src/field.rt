@@ -10,8 +10,7 @@ pub fn movei_number(op: MoveiOp, w: u32) -> u32
     ensures { result ≡ number_movei op (field w immediate_movei) }
 {
     match op {
-        MoveiOp::Low => w / 4 % 65536,
-        MoveiOp::High => w / 4 % 65536,
+        MoveiOp::Low | MoveiOp::High => w / 4 % 65536,
         MoveiOp::Whole => half_signed(w),
     }
 }
@@ -20,7 +19,7 @@ pub fn movei_number(op: MoveiOp, w: u32) -> u32
 fn half_signed(w: u32) -> u32
     ensures { result ≡ signed_field w immediate_movei }
 {
-    std::num::wrapping_sub_u32((w / 4 % 65536 + 32768) % 65536, 32768)
+    ((w / 4 % 65536 + 32768) % 65536).wrapping_sub(32768)
 }
 
 // Whether a number is one that a MOVEI word's field stands for.
@@ -28,8 +27,7 @@ pub fn movei_fits(op: MoveiOp, n: u32) -> bool
     ensures { result ≡ fits_movei op n }
 {
     match op {
-        MoveiOp::Low => n % 65536 == n,
-        MoveiOp::High => n % 65536 == n,
+        MoveiOp::Low | MoveiOp::High => n % 65536 == n,
         MoveiOp::Whole => fits(0x8000, n),
     }
 }

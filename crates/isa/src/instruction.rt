@@ -1,7 +1,7 @@
 // Operations and instructions, by the format of their words.
 
 // R, and I with an immediate for b: two operands. Those of the float unit, here and below, have no I form.
-#[derive(Clone, Copy)]
+#[derive(Clone, Copy, Debug, PartialEq, Eq)]
 pub enum BinaryOp {
     Or,
     And,
@@ -21,7 +21,7 @@ pub enum BinaryOp {
 }
 
 // R: one operand.
-#[derive(Clone, Copy)]
+#[derive(Clone, Copy, Debug, PartialEq, Eq)]
 pub enum UnaryOp {
     Clz,
     Ctz,
@@ -33,7 +33,7 @@ pub enum UnaryOp {
 }
 
 // R and I: a test of two operands.
-#[derive(Clone, Copy)]
+#[derive(Clone, Copy, Debug, PartialEq, Eq)]
 pub enum CompareOp {
     Eq,
     Ne,
@@ -54,7 +54,7 @@ pub enum CompareOp {
 }
 
 // The operations of R, and of I: the class, and within it which one.
-#[derive(Clone, Copy)]
+#[derive(Clone, Copy, Debug, PartialEq, Eq)]
 pub enum Operation {
     Binary(BinaryOp),
     Unary(UnaryOp),
@@ -64,14 +64,14 @@ pub enum Operation {
 }
 
 // MOVEI: which part of a value the immediate replaces.
-#[derive(Clone, Copy)]
+#[derive(Clone, Copy, Debug, PartialEq, Eq)]
 pub enum MoveiOp {
     Low,
     High,
     Whole,
 }
 
-#[derive(Clone, Copy)]
+#[derive(Clone, Copy, Debug, PartialEq, Eq)]
 pub enum JumpOp {
     Jmp,
     Jmpsr,
@@ -80,14 +80,14 @@ pub enum JumpOp {
     Bnez,
 }
 
-#[derive(Clone, Copy)]
+#[derive(Clone, Copy, Debug, PartialEq, Eq)]
 pub enum ControlOp {
     Barrier,
     Readcr,
     End,
 }
 
-#[derive(Clone, Copy)]
+#[derive(Clone, Copy, Debug, PartialEq, Eq)]
 pub enum LoadOp {
     Load8,
     Load16,
@@ -96,14 +96,14 @@ pub enum LoadOp {
     Load16u,
 }
 
-#[derive(Clone, Copy)]
+#[derive(Clone, Copy, Debug, PartialEq, Eq)]
 pub enum StoreOp {
     Store8,
     Store16,
     Store32,
 }
 
-#[derive(Clone, Copy)]
+#[derive(Clone, Copy, Debug, PartialEq, Eq)]
 pub enum MemoryOp {
     Load(LoadOp),
     Store(StoreOp),
@@ -114,7 +114,7 @@ pub enum MemoryOp {
 // An instruction. Its fields may hold what no word has room for. `flags` are the vector flags of d, a and b (R) or of d and a (I),
 // d highest. A signed number is held modulo 2^32. Every field has one width, so that those of two formats don't share a place in part,
 // and the compiler keeps each in a register.
-#[derive(Clone, Copy)]
+#[derive(Clone, Copy, Debug, PartialEq, Eq)]
 pub enum Instruction {
     R {
         op: Operation,
@@ -154,17 +154,9 @@ pub enum Instruction {
     },
 }
 
-// What a word is read as.
-#[derive(Clone, Copy)]
-pub enum Reading {
-    Defined(Instruction),
+// Why a word is read as no instruction.
+#[derive(Clone, Copy, Debug, PartialEq, Eq)]
+pub enum Unreadable {
     Undefined,
     NotFitted,
-}
-
-// What an instruction is written as.
-#[derive(Clone, Copy)]
-pub enum Writing {
-    Word(u32),
-    NoWord,
 }

@@ -14,10 +14,10 @@ mod write;
 pub use field::movei_number;
 pub use instruction::{
     BinaryOp, CompareOp, ControlOp, Instruction, JumpOp, LoadOp, MemoryOp, MoveiOp, Operation,
-    Reading, StoreOp, UnaryOp, Writing,
+    StoreOp, UnaryOp, Unreadable,
 };
 pub use opcode::opcode_of;
 pub use operands::{Slot, Slots, slots_of};
 pub use read::read_word;
-pub use template::{Template, template_of};
+pub use template::template_of;
 pub use write::write_word;

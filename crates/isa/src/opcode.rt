@@ -1,6 +1,9 @@
-// The tables: from an opcode to its operation, and back. A `match` compiles to a table in the program's constant data.
+// The tables: from an opcode to its operation, and back. A `match` compiles to a table in the program's constant data. Each format has its
+// own: a trait over them would hold the same rows, with a name more for each.
+#![tactic(auto, unfolding(crate::specs::Table::find))]
+
 ghost use Rattle.std.specs.Prelude.{◌≡◌};
-ghost use Rattle.isa.specs.Found.{found_r, found_movei, found_j, found_c, found_m};
+ghost use Rattle.isa.specs.Found.{found};
 ghost use Rattle.isa.specs.Table.{operation_at, table_r, table_movei, table_j, table_c, table_m, row_r, row_movei, row_j, row_c, row_m, opcode_of, not-fitted-opcodes};
 ghost use Rattle.isa.specs.Test.{is_in};
 ghost use Rattle.isa.specs.Types.{Binary, Unary, Compare, Load, Store};
@@ -10,82 +13,52 @@ use crate::instruction::{
     StoreOp, UnaryOp,
 };
 
-// What an opcode of each format stands for.
-#[derive(Clone, Copy)]
-pub enum ROpcode {
-    Listed(Operation),
-    NotListed,
-}
-
-#[derive(Clone, Copy)]
-pub enum MoveiOpcode {
-    Listed(MoveiOp),
-    NotListed,
-}
-
-#[derive(Clone, Copy)]
-pub enum JumpOpcode {
-    Listed(JumpOp),
-    NotListed,
-}
-
-#[derive(Clone, Copy)]
-pub enum ControlOpcode {
-    Listed(ControlOp),
-    NotListed,
-}
-
-#[derive(Clone, Copy)]
-pub enum MemoryOpcode {
-    Listed(MemoryOp),
-    NotListed,
-}
-
-pub fn of_r(opcode: u8) -> ROpcode
-    ensures { found_r result ≡ operation_at table_r opcode }
+// The operation that an opcode of each format stands for, if any.
+pub fn of_r(opcode: u8) -> Option<Operation>
+    ensures { found result ≡ operation_at table_r opcode }
 {
     match opcode {
-        1 => ROpcode::Listed(Operation::Binary(BinaryOp::Or)),
-        2 => ROpcode::Listed(Operation::Binary(BinaryOp::And)),
-        3 => ROpcode::Listed(Operation::Binary(BinaryOp::Xor)),
-        4 => ROpcode::Listed(Operation::Binary(BinaryOp::Add)),
-        5 => ROpcode::Listed(Operation::Binary(BinaryOp::Sub)),
-        6 => ROpcode::Listed(Operation::Binary(BinaryOp::Mullo)),
-        7 => ROpcode::Listed(Operation::Binary(BinaryOp::Mulhi)),
-        8 => ROpcode::Listed(Operation::Binary(BinaryOp::Mulhu)),
-        9 => ROpcode::Listed(Operation::Binary(BinaryOp::Ashr)),
-        10 => ROpcode::Listed(Operation::Binary(BinaryOp::Shr)),
-        11 => ROpcode::Listed(Operation::Binary(BinaryOp::Shl)),
-        12 => ROpcode::Listed(Operation::Unary(UnaryOp::Clz)),
-        13 => ROpcode::Listed(Operation::Unary(UnaryOp::Ctz)),
-        14 => ROpcode::Listed(Operation::Compare(CompareOp::Eq)),
-        15 => ROpcode::Listed(Operation::Compare(CompareOp::Ne)),
-        16 => ROpcode::Listed(Operation::Compare(CompareOp::Gt)),
-        17 => ROpcode::Listed(Operation::Compare(CompareOp::Ge)),
-        18 => ROpcode::Listed(Operation::Compare(CompareOp::Lt)),
-        19 => ROpcode::Listed(Operation::Compare(CompareOp::Le)),
-        20 => ROpcode::Listed(Operation::Compare(CompareOp::Ugt)),
-        21 => ROpcode::Listed(Operation::Compare(CompareOp::Uge)),
-        22 => ROpcode::Listed(Operation::Compare(CompareOp::Ult)),
-        23 => ROpcode::Listed(Operation::Compare(CompareOp::Ule)),
-        24 => ROpcode::Listed(Operation::Shuffle),
-        25 => ROpcode::Listed(Operation::GetLane),
-        32 => ROpcode::Listed(Operation::Unary(UnaryOp::Move)),
-        33 => ROpcode::Listed(Operation::Binary(BinaryOp::Fadd)),
-        34 => ROpcode::Listed(Operation::Binary(BinaryOp::Fsub)),
-        35 => ROpcode::Listed(Operation::Binary(BinaryOp::Fmul)),
-        36 => ROpcode::Listed(Operation::Binary(BinaryOp::Fdiv)),
-        37 => ROpcode::Listed(Operation::Compare(CompareOp::Feq)),
-        38 => ROpcode::Listed(Operation::Compare(CompareOp::Fne)),
-        39 => ROpcode::Listed(Operation::Compare(CompareOp::Fgt)),
-        40 => ROpcode::Listed(Operation::Compare(CompareOp::Fge)),
-        41 => ROpcode::Listed(Operation::Compare(CompareOp::Flt)),
-        42 => ROpcode::Listed(Operation::Compare(CompareOp::Fle)),
-        43 => ROpcode::Listed(Operation::Unary(UnaryOp::Sext8)),
-        44 => ROpcode::Listed(Operation::Unary(UnaryOp::Sext16)),
-        48 => ROpcode::Listed(Operation::Unary(UnaryOp::IntToFloat)),
-        49 => ROpcode::Listed(Operation::Unary(UnaryOp::FloatToInt)),
-        _ => ROpcode::NotListed,
+        1 => Some(Operation::Binary(BinaryOp::Or)),
+        2 => Some(Operation::Binary(BinaryOp::And)),
+        3 => Some(Operation::Binary(BinaryOp::Xor)),
+        4 => Some(Operation::Binary(BinaryOp::Add)),
+        5 => Some(Operation::Binary(BinaryOp::Sub)),
+        6 => Some(Operation::Binary(BinaryOp::Mullo)),
+        7 => Some(Operation::Binary(BinaryOp::Mulhi)),
+        8 => Some(Operation::Binary(BinaryOp::Mulhu)),
+        9 => Some(Operation::Binary(BinaryOp::Ashr)),
+        10 => Some(Operation::Binary(BinaryOp::Shr)),
+        11 => Some(Operation::Binary(BinaryOp::Shl)),
+        12 => Some(Operation::Unary(UnaryOp::Clz)),
+        13 => Some(Operation::Unary(UnaryOp::Ctz)),
+        14 => Some(Operation::Compare(CompareOp::Eq)),
+        15 => Some(Operation::Compare(CompareOp::Ne)),
+        16 => Some(Operation::Compare(CompareOp::Gt)),
+        17 => Some(Operation::Compare(CompareOp::Ge)),
+        18 => Some(Operation::Compare(CompareOp::Lt)),
+        19 => Some(Operation::Compare(CompareOp::Le)),
+        20 => Some(Operation::Compare(CompareOp::Ugt)),
+        21 => Some(Operation::Compare(CompareOp::Uge)),
+        22 => Some(Operation::Compare(CompareOp::Ult)),
+        23 => Some(Operation::Compare(CompareOp::Ule)),
+        24 => Some(Operation::Shuffle),
+        25 => Some(Operation::GetLane),
+        32 => Some(Operation::Unary(UnaryOp::Move)),
+        33 => Some(Operation::Binary(BinaryOp::Fadd)),
+        34 => Some(Operation::Binary(BinaryOp::Fsub)),
+        35 => Some(Operation::Binary(BinaryOp::Fmul)),
+        36 => Some(Operation::Binary(BinaryOp::Fdiv)),
+        37 => Some(Operation::Compare(CompareOp::Feq)),
+        38 => Some(Operation::Compare(CompareOp::Fne)),
+        39 => Some(Operation::Compare(CompareOp::Fgt)),
+        40 => Some(Operation::Compare(CompareOp::Fge)),
+        41 => Some(Operation::Compare(CompareOp::Flt)),
+        42 => Some(Operation::Compare(CompareOp::Fle)),
+        43 => Some(Operation::Unary(UnaryOp::Sext8)),
+        44 => Some(Operation::Unary(UnaryOp::Sext16)),
+        48 => Some(Operation::Unary(UnaryOp::IntToFloat)),
+        49 => Some(Operation::Unary(UnaryOp::FloatToInt)),
+        _ => None,
     }
 }
 
@@ -96,56 +69,56 @@ pub fn unfitted(opcode: u8) -> bool
     opcode == 45
 }
 
-pub fn of_movei(opcode: u8) -> MoveiOpcode
-    ensures { found_movei result ≡ operation_at table_movei opcode }
+pub fn of_movei(opcode: u8) -> Option<MoveiOp>
+    ensures { found result ≡ operation_at table_movei opcode }
 {
     match opcode {
-        0 => MoveiOpcode::Listed(MoveiOp::Low),
-        1 => MoveiOpcode::Listed(MoveiOp::High),
-        2 => MoveiOpcode::Listed(MoveiOp::Whole),
-        _ => MoveiOpcode::NotListed,
+        0 => Some(MoveiOp::Low),
+        1 => Some(MoveiOp::High),
+        2 => Some(MoveiOp::Whole),
+        _ => None,
     }
 }
 
-pub fn of_j(opcode: u8) -> JumpOpcode
-    ensures { found_j result ≡ operation_at table_j opcode }
+pub fn of_j(opcode: u8) -> Option<JumpOp>
+    ensures { found result ≡ operation_at table_j opcode }
 {
     match opcode {
-        0 => JumpOpcode::Listed(JumpOp::Jmp),
-        1 => JumpOpcode::Listed(JumpOp::Jmpsr),
-        2 => JumpOpcode::Listed(JumpOp::Jret),
-        5 => JumpOpcode::Listed(JumpOp::Beqz),
-        6 => JumpOpcode::Listed(JumpOp::Bnez),
-        _ => JumpOpcode::NotListed,
+        0 => Some(JumpOp::Jmp),
+        1 => Some(JumpOp::Jmpsr),
+        2 => Some(JumpOp::Jret),
+        5 => Some(JumpOp::Beqz),
+        6 => Some(JumpOp::Bnez),
+        _ => None,
     }
 }
 
-pub fn of_c(opcode: u8) -> ControlOpcode
-    ensures { found_c result ≡ operation_at table_c opcode }
+pub fn of_c(opcode: u8) -> Option<ControlOp>
+    ensures { found result ≡ operation_at table_c opcode }
 {
     match opcode {
-        0 => ControlOpcode::Listed(ControlOp::Barrier),
-        1 => ControlOpcode::Listed(ControlOp::Readcr),
-        2 => ControlOpcode::Listed(ControlOp::End),
-        _ => ControlOpcode::NotListed,
+        0 => Some(ControlOp::Barrier),
+        1 => Some(ControlOp::Readcr),
+        2 => Some(ControlOp::End),
+        _ => None,
     }
 }
 
-pub fn of_m(opcode: u8) -> MemoryOpcode
-    ensures { found_m result ≡ operation_at table_m opcode }
+pub fn of_m(opcode: u8) -> Option<MemoryOp>
+    ensures { found result ≡ operation_at table_m opcode }
 {
     match opcode {
-        0 => MemoryOpcode::Listed(MemoryOp::Load(LoadOp::Load8)),
-        1 => MemoryOpcode::Listed(MemoryOp::Load(LoadOp::Load16)),
-        2 => MemoryOpcode::Listed(MemoryOp::Load(LoadOp::Load32)),
-        4 => MemoryOpcode::Listed(MemoryOp::Load(LoadOp::Load8u)),
-        5 => MemoryOpcode::Listed(MemoryOp::Load(LoadOp::Load16u)),
-        8 => MemoryOpcode::Listed(MemoryOp::LoadVector),
-        32 => MemoryOpcode::Listed(MemoryOp::Store(StoreOp::Store8)),
-        33 => MemoryOpcode::Listed(MemoryOp::Store(StoreOp::Store16)),
-        34 => MemoryOpcode::Listed(MemoryOp::Store(StoreOp::Store32)),
-        40 => MemoryOpcode::Listed(MemoryOp::StoreVector),
-        _ => MemoryOpcode::NotListed,
+        0 => Some(MemoryOp::Load(LoadOp::Load8)),
+        1 => Some(MemoryOp::Load(LoadOp::Load16)),
+        2 => Some(MemoryOp::Load(LoadOp::Load32)),
+        4 => Some(MemoryOp::Load(LoadOp::Load8u)),
+        5 => Some(MemoryOp::Load(LoadOp::Load16u)),
+        8 => Some(MemoryOp::LoadVector),
+        32 => Some(MemoryOp::Store(StoreOp::Store8)),
+        33 => Some(MemoryOp::Store(StoreOp::Store16)),
+        34 => Some(MemoryOp::Store(StoreOp::Store32)),
+        40 => Some(MemoryOp::StoreVector),
+        _ => None,
     }
 }
 
@@ -291,41 +264,10 @@ pub fn opcode_of(i: Instruction) -> u8
     ensures { result ≡ opcode_of i }
 {
     match i {
-        Instruction::R {
-            op,
-            flags: _,
-            d: _,
-            a: _,
-            b: _,
-        } => r_opcode(op),
-        Instruction::I {
-            op,
-            flags: _,
-            d: _,
-            a: _,
-            immediate: _,
-        } => r_opcode(op),
-        Instruction::Movei {
-            op,
-            flag: _,
-            d: _,
-            immediate: _,
-        } => movei_opcode(op),
-        Instruction::J {
-            op,
-            register: _,
-            offset: _,
-        } => j_opcode(op),
-        Instruction::C {
-            op,
-            first: _,
-            second: _,
-        } => c_opcode(op),
-        Instruction::M {
-            op,
-            register: _,
-            base: _,
-            offset: _,
-        } => m_opcode(op),
+        Instruction::R { op, .. } | Instruction::I { op, .. } => r_opcode(op),
+        Instruction::Movei { op, .. } => movei_opcode(op),
+        Instruction::J { op, .. } => j_opcode(op),
+        Instruction::C { op, .. } => c_opcode(op),
+        Instruction::M { op, .. } => m_opcode(op),
     }
 }

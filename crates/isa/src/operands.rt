@@ -7,7 +7,7 @@ use crate::instruction::{ControlOp, Instruction, JumpOp};
 use crate::rule::{c_allows, j_allows, operand_b};
 
 // What an operand is; Nothing where it is left out.
-#[derive(Clone, Copy)]
+#[derive(Clone, Copy, Debug, PartialEq, Eq)]
 pub enum Slot {
     ARegister,
     AnImmediate,
@@ -15,7 +15,7 @@ pub enum Slot {
     Nothing,
 }
 
-#[derive(Clone, Copy)]
+#[derive(Clone, Copy, Debug, PartialEq, Eq)]
 pub struct Slots {
     pub first: Slot,
     pub second: Slot,
@@ -59,45 +59,15 @@ pub fn slots_of(i: Instruction) -> Slots
     ensures { result ≡ slots i }
 {
     match i {
-        Instruction::R {
-            op,
-            flags: _,
-            d: _,
-            a: _,
-            b: _,
-        } => three(
+        Instruction::R { op, .. } => three(
             Slot::ARegister,
             Slot::ARegister,
             free(operand_b(op, 1), Slot::ARegister),
         ),
-        Instruction::I {
-            op: _,
-            flags: _,
-            d: _,
-            a: _,
-            immediate: _,
-        } => three(Slot::ARegister, Slot::ARegister, Slot::AnImmediate),
-        Instruction::Movei {
-            op: _,
-            flag: _,
-            d: _,
-            immediate: _,
-        } => three(Slot::ARegister, Slot::AnImmediate, Slot::Nothing),
-        Instruction::J {
-            op,
-            register: _,
-            offset: _,
-        } => j_slots(op),
-        Instruction::C {
-            op,
-            first: _,
-            second: _,
-        } => c_slots(op),
-        Instruction::M {
-            op: _,
-            register: _,
-            base: _,
-            offset: _,
-        } => three(Slot::ARegister, Slot::AnAddress, Slot::Nothing),
+        Instruction::I { .. } => three(Slot::ARegister, Slot::ARegister, Slot::AnImmediate),
+        Instruction::Movei { .. } => three(Slot::ARegister, Slot::AnImmediate, Slot::Nothing),
+        Instruction::J { op, .. } => j_slots(op),
+        Instruction::C { op, .. } => c_slots(op),
+        Instruction::M { .. } => three(Slot::ARegister, Slot::AnAddress, Slot::Nothing),
     }
 }

@@ -3,12 +3,13 @@ ghost use Rattle.std.specs.Prelude.{◌≡◌};
 ghost use Rattle.isa.specs.Answer.{reading};
 ghost use Rattle.isa.specs.Read.{as_r, as_i, as_movei, as_j, as_c, as_m, read_r, read_i, read_movei, read_j, read_c, read_m, read};
 
-use crate::instruction::{ControlOp, Instruction, JumpOp, MemoryOp, MoveiOp, Operation, Reading};
-use crate::opcode::{ControlOpcode, JumpOpcode, MemoryOpcode, MoveiOpcode, ROpcode};
+use crate::instruction::{
+    ControlOp, Instruction, JumpOp, MemoryOp, MoveiOp, Operation, Unreadable,
+};
 use crate::{field, opcode, rule};
 use word_layout::{PREFIX_C, PREFIX_I, PREFIX_J, PREFIX_M, PREFIX_MOVEI, PREFIX_R};
 
-fn as_r(w: u32, op: Operation) -> Reading
+fn as_r(w: u32, op: Operation) -> Result<Instruction, Unreadable>
     ensures { reading result ≡ as_r w op }
 {
     let flags = w / 2 % 8;
@@ -18,16 +19,16 @@ fn as_r(w: u32, op: Operation) -> Reading
     // Before the bit l is looked at, so that the compiler finds the flags by the opcode.
     let allowed = rule::r_allows(op, flags, d, b);
     if w / 0x10 % 2 == 1 {
-        return Reading::NotFitted;
+        return Err(Unreadable::NotFitted);
     }
     if (w / 0x20 % 2 == 0) & (w % 2 == 0) & allowed {
-        Reading::Defined(Instruction::R { op, flags, d, a, b })
+        Ok(Instruction::R { op, flags, d, a, b })
     } else {
-        Reading::Undefined
+        Err(Unreadable::Undefined)
     }
 }
 
-fn as_i(w: u32, op: Operation) -> Reading
+fn as_i(w: u32, op: Operation) -> Result<Instruction, Unreadable>
     ensures { reading result ≡ as_i w op }
 {
     let flags = w / 2 % 4;
@@ -35,7 +36,7 @@ fn as_i(w: u32, op: Operation) -> Reading
     let a = w / 0x1000 % 64;
     let immediate = word_layout::short_signed(w);
     if (w % 2 == 0) & rule::i_allows(op, flags, d) {
-        Reading::Defined(Instruction::I {
+        Ok(Instruction::I {
             op,
             flags,
             d,
@@ -43,140 +44,125 @@ fn as_i(w: u32, op: Operation) -> Reading
             immediate,
         })
     } else {
-        Reading::Undefined
+        Err(Unreadable::Undefined)
     }
 }
 
-fn as_movei(w: u32, op: MoveiOp) -> Reading
+fn as_movei(w: u32, op: MoveiOp) -> Result<Instruction, Unreadable>
     ensures { reading result ≡ as_movei w op }
 {
     let flag = w / 2 % 2;
     let d = w / 0x40000 % 64;
     let immediate = field::movei_number(op, w);
     if (w % 2 == 0) & rule::movei_allows(flag, d) {
-        Reading::Defined(Instruction::Movei {
+        Ok(Instruction::Movei {
             op,
             flag,
             d,
             immediate,
         })
     } else {
-        Reading::Undefined
+        Err(Unreadable::Undefined)
     }
 }
 
-fn as_j(w: u32, op: JumpOp) -> Reading
+fn as_j(w: u32, op: JumpOp) -> Result<Instruction, Unreadable>
     ensures { reading result ≡ as_j w op }
 {
     let register = w / 0x40000 % 64;
     let offset = word_layout::long_signed(w);
     if rule::j_allows(op, register, offset) {
-        Reading::Defined(Instruction::J {
+        Ok(Instruction::J {
             op,
             register,
             offset,
         })
     } else {
-        Reading::Undefined
+        Err(Unreadable::Undefined)
     }
 }
 
-fn as_c(w: u32, op: ControlOp) -> Reading
+fn as_c(w: u32, op: ControlOp) -> Result<Instruction, Unreadable>
     ensures { reading result ≡ as_c w op }
 {
     let first = w / 0x40000 % 64;
     let second = w / 0x1000 % 64;
     if (w % 0x1000 == 0) & rule::c_allows(op, first, second) {
-        Reading::Defined(Instruction::C { op, first, second })
+        Ok(Instruction::C { op, first, second })
     } else {
-        Reading::Undefined
+        Err(Unreadable::Undefined)
     }
 }
 
-fn as_m(w: u32, op: MemoryOp) -> Reading
+fn as_m(w: u32, op: MemoryOp) -> Result<Instruction, Unreadable>
     ensures { reading result ≡ as_m w op }
 {
     let register = w / 0x40000 % 64;
     let base = w / 0x1000 % 64;
     let offset = word_layout::short_signed(w);
     if w / 2 % 4 != 0 {
-        return Reading::NotFitted;
+        return Err(Unreadable::NotFitted);
     }
     if (w % 2 == 0) & rule::m_allows(op, register) {
-        Reading::Defined(Instruction::M {
+        Ok(Instruction::M {
             op,
             register,
             base,
             offset,
         })
     } else {
-        Reading::Undefined
+        Err(Unreadable::Undefined)
     }
 }
 
-fn read_r(w: u32) -> Reading
+fn read_r(w: u32) -> Result<Instruction, Unreadable>
     ensures { reading result ≡ read_r w }
 {
     let opcode = (w / 0x1000000 % 64) as u8;
     match opcode::of_r(opcode) {
-        ROpcode::Listed(op) => as_r(w, op),
-        ROpcode::NotListed => {
-            if opcode::unfitted(opcode) {
-                Reading::NotFitted
-            } else {
-                Reading::Undefined
-            }
-        }
+        Some(op) => as_r(w, op),
+        None if opcode::unfitted(opcode) => Err(Unreadable::NotFitted),
+        None => Err(Unreadable::Undefined),
     }
 }
 
-fn read_i(w: u32) -> Reading
+fn read_i(w: u32) -> Result<Instruction, Unreadable>
     ensures { reading result ≡ read_i w }
 {
-    match opcode::of_r((w / 0x1000000 % 32) as u8) {
-        ROpcode::Listed(op) => as_i(w, op),
-        ROpcode::NotListed => Reading::Undefined,
-    }
+    let op = opcode::of_r((w / 0x1000000 % 32) as u8).ok_or(Unreadable::Undefined)?;
+    as_i(w, op)
 }
 
-fn read_movei(w: u32) -> Reading
+fn read_movei(w: u32) -> Result<Instruction, Unreadable>
     ensures { reading result ≡ read_movei w }
 {
-    match opcode::of_movei((w / 0x1000000 % 8) as u8) {
-        MoveiOpcode::Listed(op) => as_movei(w, op),
-        MoveiOpcode::NotListed => Reading::Undefined,
-    }
+    let op = opcode::of_movei((w / 0x1000000 % 8) as u8).ok_or(Unreadable::Undefined)?;
+    as_movei(w, op)
 }
 
-fn read_j(w: u32) -> Reading
+fn read_j(w: u32) -> Result<Instruction, Unreadable>
     ensures { reading result ≡ read_j w }
 {
-    match opcode::of_j((w / 0x1000000 % 8) as u8) {
-        JumpOpcode::Listed(op) => as_j(w, op),
-        JumpOpcode::NotListed => Reading::Undefined,
-    }
+    let op = opcode::of_j((w / 0x1000000 % 8) as u8).ok_or(Unreadable::Undefined)?;
+    as_j(w, op)
 }
 
-fn read_c(w: u32) -> Reading
+fn read_c(w: u32) -> Result<Instruction, Unreadable>
     ensures { reading result ≡ read_c w }
 {
-    match opcode::of_c((w / 0x1000000 % 8) as u8) {
-        ControlOpcode::Listed(op) => as_c(w, op),
-        ControlOpcode::NotListed => Reading::Undefined,
-    }
+    let op = opcode::of_c((w / 0x1000000 % 8) as u8).ok_or(Unreadable::Undefined)?;
+    as_c(w, op)
 }
 
-fn read_m(w: u32) -> Reading
+fn read_m(w: u32) -> Result<Instruction, Unreadable>
     ensures { reading result ≡ read_m w }
 {
-    match opcode::of_m((w / 0x1000000 % 64) as u8) {
-        MemoryOpcode::Listed(op) => as_m(w, op),
-        MemoryOpcode::NotListed => Reading::Undefined,
-    }
+    let op = opcode::of_m((w / 0x1000000 % 64) as u8).ok_or(Unreadable::Undefined)?;
+    as_m(w, op)
 }
 
 // What a word is read as. No word is of two formats, so that the frequent ones can come first.
-pub fn read_word(w: u32) -> Reading
+pub fn read_word(w: u32) -> Result<Instruction, Unreadable>
     ensures { reading result ≡ read w }
 {
     if w / 0x40000000 == PREFIX_R {
@@ -197,5 +183,5 @@ pub fn read_word(w: u32) -> Reading
     if w / 0x8000000 == PREFIX_C {
         return read_c(w);
     }
-    Reading::Undefined
+    Err(Unreadable::Undefined)
 }

@@ -11,13 +11,8 @@ fn unary_set(op: UnaryOp) -> u32
     ensures { result ≡ set_of (flags_unary op) }
 {
     match op {
-        UnaryOp::Clz => 0b01000001,
-        UnaryOp::Ctz => 0b01000001,
         UnaryOp::Move => 0b01010001,
-        UnaryOp::Sext8 => 0b01000001,
-        UnaryOp::Sext16 => 0b01000001,
-        UnaryOp::IntToFloat => 0b01000001,
-        UnaryOp::FloatToInt => 0b01000001,
+        _ => 0b01000001,
     }
 }
 
@@ -38,20 +33,16 @@ fn class_set(op: Operation) -> u32
 {
     match op {
         Operation::Binary(_) => 0b1001,
-        Operation::Unary(_) => 0,
         Operation::Compare(_) => 0b0011,
-        Operation::Shuffle => 0,
         Operation::GetLane => 0b0010,
+        Operation::Unary(_) | Operation::Shuffle => 0,
     }
 }
 
 fn i_set(op: Operation) -> u32
     ensures { result ≡ set_of (flags_i op) }
 {
-    if r_opcode(op) < 32 {
-        return class_set(op);
-    }
-    0
+    if r_opcode(op) < 32 { class_set(op) } else { 0 }
 }
 
 // Whether I has words of an operation of R.
@@ -80,13 +71,7 @@ fn is_destination(vector: bool, d: u32) -> bool
 pub fn operand_b(op: Operation, b: u32) -> bool
     ensures { result ≡ operand_b op b }
 {
-    match op {
-        Operation::Binary(_) => true,
-        Operation::Unary(_) => b == 0,
-        Operation::Compare(_) => true,
-        Operation::Shuffle => true,
-        Operation::GetLane => true,
-    }
+    !matches!(op, Operation::Unary(_)) | (b == 0)
 }
 
 pub fn r_allows(op: Operation, flags: u32, d: u32, b: u32) -> bool
@@ -111,11 +96,9 @@ pub fn j_allows(op: JumpOp, register: u32, offset: u32) -> bool
     ensures { result ≡ allows_j op register offset }
 {
     match op {
-        JumpOp::Jmp => register == 0,
-        JumpOp::Jmpsr => register == 0,
+        JumpOp::Jmp | JumpOp::Jmpsr => register == 0,
         JumpOp::Jret => (register == 0) & (offset == 0),
-        JumpOp::Beqz => true,
-        JumpOp::Bnez => true,
+        JumpOp::Beqz | JumpOp::Bnez => true,
     }
 }
 
@@ -132,10 +115,5 @@ pub fn c_allows(op: ControlOp, first: u32, second: u32) -> bool
 pub fn m_allows(op: MemoryOp, register: u32) -> bool
     ensures { result ≡ allows_m op register }
 {
-    match op {
-        MemoryOp::Load(_) => is_destination(false, register),
-        MemoryOp::Store(_) => true,
-        MemoryOp::LoadVector => true,
-        MemoryOp::StoreVector => true,
-    }
+    !matches!(op, MemoryOp::Load(_)) | is_destination(false, register)
 }

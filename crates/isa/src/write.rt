@@ -5,10 +5,10 @@ ghost use Rattle.std.specs.Prelude.{◌≡◌};
 ghost use Rattle.isa.specs.Answer.{writing};
 ghost use Rattle.isa.specs.Write.{write_r, write_i, write_movei, write_j, write_c, write_m, write};
 
-use crate::instruction::{ControlOp, Instruction, JumpOp, MemoryOp, MoveiOp, Operation, Writing};
+use crate::instruction::{ControlOp, Instruction, JumpOp, MemoryOp, MoveiOp, Operation};
 use crate::{field, opcode, pack, rule};
 
-fn write_r(op: Operation, flags: u32, d: u32, a: u32, b: u32) -> Writing
+fn write_r(op: Operation, flags: u32, d: u32, a: u32, b: u32) -> Option<u32>
     ensures { writing result ≡ write_r op flags d a b }
 {
     let opcode = opcode::r_opcode(op);
@@ -19,13 +19,13 @@ fn write_r(op: Operation, flags: u32, d: u32, a: u32, b: u32) -> Writing
         & (b < 64)
         & (flags < 8)
     {
-        Writing::Word(pack::r(opcode, d, a, b, flags))
+        Some(pack::r(opcode, d, a, b, flags))
     } else {
-        Writing::NoWord
+        None
     }
 }
 
-fn write_i(op: Operation, flags: u32, d: u32, a: u32, immediate: u32) -> Writing
+fn write_i(op: Operation, flags: u32, d: u32, a: u32, immediate: u32) -> Option<u32>
     ensures { writing result ≡ write_i op flags d a immediate }
 {
     let opcode = opcode::r_opcode(op);
@@ -36,13 +36,13 @@ fn write_i(op: Operation, flags: u32, d: u32, a: u32, immediate: u32) -> Writing
         & (a < 64)
         & (flags < 4)
     {
-        Writing::Word(pack::i(opcode, d, a, immediate % 512, flags))
+        Some(pack::i(opcode, d, a, immediate % 512, flags))
     } else {
-        Writing::NoWord
+        None
     }
 }
 
-fn write_movei(op: MoveiOp, flag: u32, d: u32, immediate: u32) -> Writing
+fn write_movei(op: MoveiOp, flag: u32, d: u32, immediate: u32) -> Option<u32>
     ensures { writing result ≡ write_movei op flag d immediate }
 {
     let opcode = opcode::movei_opcode(op);
@@ -52,13 +52,13 @@ fn write_movei(op: MoveiOp, flag: u32, d: u32, immediate: u32) -> Writing
         & (d < 64)
         & (flag < 2)
     {
-        Writing::Word(pack::movei(opcode, d, immediate % 65536, flag))
+        Some(pack::movei(opcode, d, immediate % 65536, flag))
     } else {
-        Writing::NoWord
+        None
     }
 }
 
-fn write_j(op: JumpOp, register: u32, offset: u32) -> Writing
+fn write_j(op: JumpOp, register: u32, offset: u32) -> Option<u32>
     ensures { writing result ≡ write_j op register offset }
 {
     let opcode = opcode::j_opcode(op);
@@ -67,24 +67,24 @@ fn write_j(op: JumpOp, register: u32, offset: u32) -> Writing
         & (opcode < 8)
         & (register < 64)
     {
-        Writing::Word(pack::j(opcode, register, offset % 0x40000))
+        Some(pack::j(opcode, register, offset % 0x40000))
     } else {
-        Writing::NoWord
+        None
     }
 }
 
-fn write_c(op: ControlOp, first: u32, second: u32) -> Writing
+fn write_c(op: ControlOp, first: u32, second: u32) -> Option<u32>
     ensures { writing result ≡ write_c op first second }
 {
     let opcode = opcode::c_opcode(op);
     if rule::c_allows(op, first, second) & (opcode < 8) & (first < 64) & (second < 64) {
-        Writing::Word(pack::c(opcode, first, second))
+        Some(pack::c(opcode, first, second))
     } else {
-        Writing::NoWord
+        None
     }
 }
 
-fn write_m(op: MemoryOp, register: u32, base: u32, offset: u32) -> Writing
+fn write_m(op: MemoryOp, register: u32, base: u32, offset: u32) -> Option<u32>
     ensures { writing result ≡ write_m op register base offset }
 {
     let opcode = opcode::m_opcode(op);
@@ -94,14 +94,14 @@ fn write_m(op: MemoryOp, register: u32, base: u32, offset: u32) -> Writing
         & (register < 64)
         & (base < 64)
     {
-        Writing::Word(pack::m(opcode, register, base, offset % 512))
+        Some(pack::m(opcode, register, base, offset % 512))
     } else {
-        Writing::NoWord
+        None
     }
 }
 
 // The word of an instruction, where it has one.
-pub fn write_word(i: Instruction) -> Writing
+pub fn write_word(i: Instruction) -> Option<u32>
     ensures { writing result ≡ write i }
 {
     match i {

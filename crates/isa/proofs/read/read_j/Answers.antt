@@ -1,11 +1,14 @@
 -- `read_j` meets its contract: by what the opcode stands for.
 use Rattle.isa.specs.Read.{read_j, listed}
+use Rattle.isa.proofs.Lookup.{op-of, none-of}
 use Rattle.isa.proofs.read.read_j.Goals as goal
 
-pub returns-in-Listed : goal.returns-in-Listed
+pub returns-in_err-op : goal.returns-in_err-op
 unfolding read_j listed
-returns-in-Listed c = rw (← c.of_j.ensures, c.in-Listed.is) c.as_j.ensures
+returns-in_err-op c =
+    let n = none-of c.of_j.result c.in_err-op.field-0.0 c.in_err-op.ensures.value in
+    rw (← c.of_j.ensures, n.0) (n.1 c.from_residual.result c.from_residual.ensures)
 
-pub returns-in-NotListed : goal.returns-in-NotListed
+pub returns : goal.returns
 unfolding read_j listed
-returns-in-NotListed c = rw (← c.of_j.ensures, c.in-NotListed.is)
+returns c = rw (← c.of_j.ensures, op-of c.of_j.result c.in_ok-op.op c.in_ok-op.ensures.value) c.as_j.ensures

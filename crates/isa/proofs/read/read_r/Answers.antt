@@ -2,14 +2,14 @@
 use Rattle.isa.specs.Read.{read_r, listed}
 use Rattle.isa.proofs.read.read_r.Goals as goal
 
-pub returns-in-Listed : goal.returns-in-Listed
+pub returns-in-Some : goal.returns-in-Some
 unfolding read_r listed
-returns-in-Listed c = rw (← c.of_r.ensures, c.in-Listed.is) c.as_r.ensures
+returns-in-Some c = rw (← c.of_r.ensures, c.in-Some.is) c.as_r.ensures
 
-pub returns-then-unfitted : goal.returns-then-unfitted
+pub returns-in-None : goal.returns-in-None
 unfolding read_r listed
-returns-then-unfitted c = rw (← c.of_r.ensures, c.in-NotListed.is, ← c.unfitted.ensures, c.if-unfitted.true)
+returns-in-None c = rw (← c.of_r.ensures, c.in-None.is, ← c.unfitted.ensures, c.if-unfitted.true)
 
-pub returns-else-unfitted : goal.returns-else-unfitted
+pub returns-in-None-2 : goal.returns-in-None-2
 unfolding read_r listed
-returns-else-unfitted c = rw (← c.of_r.ensures, c.in-NotListed.is, ← c.unfitted.ensures, c.if-unfitted.false)
+returns-in-None-2 c = rw (← c.of_r.ensures, c.in-None-2.is, ← c.unfitted.ensures, c.if-unfitted.false)

@@ -13,5 +13,5 @@ returns-then-r_opcode-lt32 c =
     let r = c.r_opcode in
     c.class_set.ensures ∙ chosen c.args.op _ _ _ r.ensures (lt-ltb _ _ c.if-r_opcode-lt32.true)
 
-pub returns : goal.returns
-returns c = chosen c.args.op _ _ _ c.r_opcode.ensures (le-ltb _ _ c.if-r_opcode-lt32.false)
+pub returns-else-r_opcode-lt32 : goal.returns-else-r_opcode-lt32
+returns-else-r_opcode-lt32 c = chosen c.args.op _ _ _ c.r_opcode.ensures (le-ltb _ _ c.if-r_opcode-lt32.false)
