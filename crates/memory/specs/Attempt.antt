@@ -1,7 +1,7 @@
 -- What comes of an attempt to access memory: something, or a fault.
-use Rattle.std.specs.Prelude.{ℕ}
-use Rattle.answer.specs.Reason.{misaligned, outside-memory}
-use Rattle.memory.specs.Types.{Place, Access, Loaded}
+use Rattle.std.specs.Prelude.{ℕ, Result, Ok, Err}
+use Rattle.answer.specs.declared.reason.Reason.{Reason}
+use Rattle.answer.specs.Reason.{reason_of}
 
 -- a fault has the reason that its thread traps with
 pub data Attempt (A : Type 0) : Type 0 where
@@ -13,18 +13,7 @@ abbrev pub onward : {A B : Type 0} → Attempt A → (A → B) → Attempt B
 onward (done a) f = done (f a)
 onward (fault reason) f = fault reason
 
--- The cases of the code's answers.
-abbrev pub of_place : Place → Attempt ℕ
-of_place (Place.At a) = done a
-of_place Place.Misaligned = fault misaligned
-of_place Place.Outside = fault outside-memory
-
-abbrev pub of_access : Access → Attempt (Unit {0})
-of_access Access.Done = done tt
-of_access Access.Misaligned = fault misaligned
-of_access Access.Outside = fault outside-memory
-
-abbrev pub of_loaded : Loaded → Attempt ℕ
-of_loaded (Loaded.Value v) = done v
-of_loaded Loaded.Misaligned = fault misaligned
-of_loaded Loaded.Outside = fault outside-memory
+-- what the code answers
+abbrev pub of_result : {A : Type 0} → Result A Reason → Attempt A
+of_result (Ok a) = done a
+of_result (Err reason) = fault (reason_of reason)

@@ -1,9 +1,11 @@
 -- Loads and stores (document 01, "The words", M).
-use Rattle.std.specs.Prelude.{ℕ, ◌+◌, ◌*◌, cond, List, length}
+use Rattle.std.specs.Prelude.{ℕ, ◌+◌, ◌*◌, cond, List, length, Result, Ok, Err}
+use Rattle.answer.specs.declared.reason.Reason.{Reason}
+use Rattle.answer.specs.Reason.{reason_of}
 use Rattle.alu.specs.Unary.{unary}
 use Rattle.vector.specs.Lanes.{tab, each, lane, is_on}
-use Rattle.memory.specs.Types.{LoadOp, Load8, Load16, Load32, Load8u, Load16u, StoreOp, Store8, Store16, Store32, Sext8, Sext16, Access, LoadedLanes}
-use Rattle.memory.specs.Attempt.{Attempt, done, fault, onward, of_access}
+use Rattle.memory.specs.Types.{LoadOp, Load8, Load16, Load32, Load8u, Load16u, StoreOp, Store8, Store16, Store32, Sext8, Sext16}
+use Rattle.memory.specs.Attempt.{Attempt, done, fault, onward, of_result}
 use Rattle.memory.specs.Place.{biased, place}
 use Rattle.little_endian.specs.Numbers.{number_at, with_number}
 
@@ -49,8 +51,8 @@ pub record StoreResult : Type 0 where
   pub answer : Attempt (Unit {0})
   pub memory : List ℕ
 
-abbrev pub store_result : Access → List ℕ → StoreResult
-store_result a m = record { answer = of_access a; memory = m }
+abbrev pub store_result : Result (Unit {0}) Reason → List ℕ → StoreResult
+store_result r m = record { answer = of_result r; memory = m }
 
 -- a memory that changes only where the place is good
 abbrev pub changed : Attempt ℕ → List ℕ → (ℕ → List ℕ) → StoreResult
@@ -65,8 +67,9 @@ pub record VectorLoad : Type 0 where
   pub answer : Attempt (Unit {0})
   pub lanes : List ℕ
 
-abbrev pub of_lanes : LoadedLanes → VectorLoad
-of_lanes r = record { answer = of_access r.access; lanes = r.lanes }
+abbrev pub of_lanes : Result (List ℕ) Reason → VectorLoad
+of_lanes (Ok v) = record { answer = done tt; lanes = v }
+of_lanes (Err reason) = record { answer = fault (reason_of reason); lanes = tab 16 (λ j. 0) }
 
 -- "Vector forms touch lanes that are on, four bytes each"
 unfoldable pub lanes_at : List ℕ → ℕ → List ℕ

@@ -4,8 +4,8 @@ ghost use Rattle.little_endian.specs.Numbers.{with_number};
 ghost use Rattle.memory.specs.Operation.{lanes_at, with_lanes, load_lanes, of_lanes, store_result, store_lanes};
 
 use crate::bytes::{read32, write32};
-use crate::outcome::{Access, LoadedLanes};
-use crate::place::{Place, locate};
+use crate::place::locate;
+use answer::Reason;
 
 // What the address of a vector form must be a multiple of.
 const ALIGNMENT: usize = 4;
@@ -24,24 +24,11 @@ fn read_lanes(memory: &[u8], a: usize) -> [u32; 16]
     v
 }
 
-pub fn load_lanes(memory: &[u8], base: u32, offset: u32) -> LoadedLanes
+pub fn load_lanes(memory: &[u8], base: u32, offset: u32) -> Result<[u32; 16], Reason>
     ensures { of_lanes result ≡ load_lanes memory.now base offset }
 {
-    let from = locate(base, offset, ALIGNMENT, SIZE, memory.len());
-    match from {
-        Place::At(a) => LoadedLanes {
-            access: Access::Done,
-            lanes: read_lanes(memory, a),
-        },
-        Place::Misaligned => LoadedLanes {
-            access: Access::Misaligned,
-            lanes: [0u32; 16],
-        },
-        Place::Outside => LoadedLanes {
-            access: Access::Outside,
-            lanes: [0u32; 16],
-        },
-    }
+    let from = locate(base, offset, ALIGNMENT, SIZE, memory.len())?;
+    Ok(read_lanes(memory, from))
 }
 
 fn write_lane(memory: &mut [u8], a: usize, on: bool, w: u32)
@@ -62,16 +49,16 @@ fn write_lanes(memory: &mut [u8], a: usize, mask: u32, v: [u32; 16])
     }
 }
 
-pub fn store_lanes(memory: &mut [u8], base: u32, offset: u32, mask: u32, v: [u32; 16]) -> Access
+pub fn store_lanes(
+    memory: &mut [u8],
+    base: u32,
+    offset: u32,
+    mask: u32,
+    v: [u32; 16],
+) -> Result<(), Reason>
     ensures { store_result result memory.new ≡ store_lanes memory.old base offset mask v }
 {
-    let to = locate(base, offset, ALIGNMENT, SIZE, memory.len());
-    match to {
-        Place::At(a) => {
-            write_lanes(memory, a, mask, v);
-            Access::Done
-        }
-        Place::Misaligned => Access::Misaligned,
-        Place::Outside => Access::Outside,
-    }
+    let to = locate(base, offset, ALIGNMENT, SIZE, memory.len())?;
+    write_lanes(memory, to, mask, v);
+    Ok(())
 }

@@ -3,10 +3,8 @@
 
 mod bytes;
 mod lanes;
-mod outcome;
 mod place;
 mod scalar;
 
 pub use lanes::{load_lanes, store_lanes};
-pub use outcome::{Access, Loaded, LoadedLanes};
 pub use scalar::{load, store};

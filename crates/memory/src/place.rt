@@ -1,14 +1,9 @@
 // Where an access goes.
 ghost use Rattle.std.specs.Prelude.{◌≡◌, ◌%◌, ◌≤◌, ◌<◌, ◌^◌, eqb};
-ghost use Rattle.memory.specs.Attempt.{of_place};
+ghost use Rattle.memory.specs.Attempt.{of_result};
 ghost use Rattle.memory.specs.Place.{biased, place};
 
-#[derive(Clone, Copy)]
-pub enum Place {
-    At(usize),
-    Misaligned,
-    Outside,
-}
+use answer::Reason;
 
 // The address with 2^32 added, so that it is never negative.
 fn biased(base: u32, offset: u32) -> usize
@@ -35,18 +30,23 @@ fn is_multiple(address: usize, alignment: usize) -> bool
 }
 
 // The place of `size` bytes in a memory of `length` bytes, at an address that must be a multiple of `alignment`.
-pub fn locate(base: u32, offset: u32, alignment: usize, size: usize, length: usize) -> Place
+pub fn locate(
+    base: u32,
+    offset: u32,
+    alignment: usize,
+    size: usize,
+    length: usize,
+) -> Result<usize, Reason>
     requires { (0 < alignment) × (size ≤ 64) × (length < 2 ^ 63) }
-    ensures { of_place result ≡ place alignment size length (biased base offset) }
+    ensures { of_result result ≡ place alignment size length (biased base offset) }
 {
     let address = biased(base, offset);
-    let multiple = is_multiple(address, alignment);
     let inside = (4294967296 <= address) & (address + size <= 4294967296 + length);
-    if !multiple {
-        return Place::Misaligned;
+    if !is_multiple(address, alignment) {
+        return Err(Reason::Misaligned);
     }
     if !inside {
-        return Place::Outside;
+        return Err(Reason::OutsideMemory);
     }
-    Place::At(address - 4294967296)
+    Ok(address - 4294967296)
 }

@@ -1,12 +1,12 @@
 // Loads and stores of scalars.
 ghost use Rattle.std.specs.Prelude.{◌≡◌, ◌+◌, ◌≤◌, length};
-ghost use Rattle.memory.specs.Attempt.{of_loaded};
+ghost use Rattle.memory.specs.Attempt.{of_result};
 ghost use Rattle.little_endian.specs.Numbers.{number_at, with_number};
 ghost use Rattle.memory.specs.Operation.{bytes_loaded, widened, load, bytes_stored, store_result, store};
 
 use crate::bytes::{read8, read16, read32, write8, write16, write32};
-use crate::outcome::{Access, Loaded};
-use crate::place::{Place, locate};
+use crate::place::locate;
+use answer::Reason;
 use isa::{LoadOp, StoreOp, UnaryOp};
 
 fn bytes_loaded(op: LoadOp) -> usize
@@ -34,16 +34,12 @@ fn read(op: LoadOp, memory: &[u8], a: usize) -> u32
     }
 }
 
-pub fn load(op: LoadOp, memory: &[u8], base: u32, offset: u32) -> Loaded
-    ensures { of_loaded result ≡ load op memory.now base offset }
+pub fn load(op: LoadOp, memory: &[u8], base: u32, offset: u32) -> Result<u32, Reason>
+    ensures { of_result result ≡ load op memory.now base offset }
 {
     let size = bytes_loaded(op);
-    let place = locate(base, offset, size, size, memory.len());
-    match place {
-        Place::At(a) => Loaded::Value(read(op, memory, a)),
-        Place::Misaligned => Loaded::Misaligned,
-        Place::Outside => Loaded::Outside,
-    }
+    let from = locate(base, offset, size, size, memory.len())?;
+    Ok(read(op, memory, from))
 }
 
 fn bytes_stored(op: StoreOp) -> usize
@@ -67,17 +63,17 @@ fn write(op: StoreOp, memory: &mut [u8], a: usize, value: u32)
     }
 }
 
-pub fn store(op: StoreOp, memory: &mut [u8], base: u32, offset: u32, value: u32) -> Access
+pub fn store(
+    op: StoreOp,
+    memory: &mut [u8],
+    base: u32,
+    offset: u32,
+    value: u32,
+) -> Result<(), Reason>
     ensures { store_result result memory.new ≡ store op memory.old base offset value }
 {
     let size = bytes_stored(op);
-    let place = locate(base, offset, size, size, memory.len());
-    match place {
-        Place::At(a) => {
-            write(op, memory, a, value);
-            Access::Done
-        }
-        Place::Misaligned => Access::Misaligned,
-        Place::Outside => Access::Outside,
-    }
+    let to = locate(base, offset, size, size, memory.len())?;
+    write(op, memory, to, value);
+    Ok(())
 }

@@ -1,25 +1,22 @@
 -- `lanes::load_lanes` meets its contract: the lanes are those at the place of the definition.
-use mathlib.Core.Path.{sym, ap, ◌∙◌}
-use Rattle.vector.specs.Lanes.{tab}
-use Rattle.memory.specs.Types.{Access}
+use Rattle.std.proofs.Common.{Ok, sym, ap, ◌∙◌}
+use Rattle.std.proofs.lemmas.Result.{err_from_is_err_and}
 use Rattle.memory.specs.Operation.{of_lanes, load_lanes}
-use Rattle.memory.specs.Attempt.{of_place}
+use Rattle.memory.specs.Attempt.{of_result}
 use Rattle.memory.proofs.Places.{within}
 use Rattle.memory.proofs.lanes.load_lanes.Goals as goal
 
-pub read_lanes-requires : goal.read_lanes-requires
-read_lanes-requires c = within _ _ _ _ (sym c.locate-from.ensures ∙ ap of_place c.in-At.is)
-
-pub returns-in-At : goal.returns-in-At
+pub returns-in_err-from : goal.returns-in_err-from
 unfolding load_lanes
-returns-in-At c =
-    rw (sym c.locate-from.ensures ∙ ap of_place c.in-At.is)
-    (ap (λ l. of_lanes (record { access = Access.Done; lanes = l })) c.read_lanes.ensures)
+returns-in_err-from c =
+    let p = err_from_is_err_and c.from_residual.result c.from_residual.ensures.1 in
+    rw (sym c.locate.ensures ∙ ap of_result c.in_err-from.was) (rw (p.1, p.2))
 
-pub returns-in-Misaligned : goal.returns-in-Misaligned
-unfolding load_lanes tab
-returns-in-Misaligned c = rw (sym c.locate-from.ensures ∙ ap of_place c.in-Misaligned.is)
+pub read_lanes-requires : goal.read_lanes-requires
+read_lanes-requires c = within _ _ _ _ (sym c.locate.ensures ∙ ap of_result c.in_ok-from.was)
 
-pub returns-in-Outside : goal.returns-in-Outside
-unfolding load_lanes tab
-returns-in-Outside c = rw (sym c.locate-from.ensures ∙ ap of_place c.in-Outside.is)
+pub returns : goal.returns
+unfolding load_lanes
+returns c =
+    rw (sym c.locate.ensures ∙ ap of_result c.in_ok-from.was)
+    (ap (λ l. of_lanes (Ok l)) c.read_lanes.ensures)

@@ -1,29 +1,23 @@
 -- `scalar::store` meets its contract: the place is that of the definition, and what is written there too.
-use mathlib.Core.Path.{ap, ◌∙◌}
-use native.Mathlib.Omega.{arith}
-use Rattle.memory.specs.Types.{Access}
-use Rattle.memory.specs.Attempt.{of_place}
+use Rattle.std.proofs.Common.{Ok, ap, ◌∙◌}
+use Rattle.std.proofs.lemmas.Result.{err_from_is_err_and}
+use Rattle.memory.specs.Attempt.{of_result}
 use Rattle.memory.specs.Operation.{store_result, store}
-use Rattle.memory.proofs.Places.{stored-size, within, found}
+use Rattle.memory.proofs.Places.{within, found}
 use Rattle.memory.proofs.scalar.store.Goals as goal
 
-pub locate-place-requires : goal.locate-place-requires
-locate-place-requires c =
-    omega (arith, c.bytes_stored-size.ensures, (stored-size c.args.op).some, (stored-size c.args.op).few)
+pub returns-in_err-to : goal.returns-in_err-to
+unfolding store
+returns-in_err-to c =
+    let p = err_from_is_err_and c.from_residual.result c.from_residual.ensures.1 in
+    rw (found c.args.memory.now c.args.base c.args.offset c.bytes_stored-size.ensures c.locate.ensures ∙ ap of_result c.in_err-to.was)
+    (rw (p.1, p.2))
 
 pub write-requires : goal.write-requires
-write-requires c = within _ _ _ _ (found c.args.memory.now c.args.base c.args.offset c.bytes_stored-size.ensures c.locate-place.ensures ∙ ap of_place c.in-At.is)
+write-requires c = within _ _ _ _ (found c.args.memory.now c.args.base c.args.offset c.bytes_stored-size.ensures c.locate.ensures ∙ ap of_result c.in_ok-to.was)
 
-pub returns-in-At : goal.returns-in-At
+pub returns : goal.returns
 unfolding store
-returns-in-At c =
-    rw (found c.args.memory.now c.args.base c.args.offset c.bytes_stored-size.ensures c.locate-place.ensures ∙ ap of_place c.in-At.is)
-    (ap (store_result Access.Done) c.write.ensures)
-
-pub returns-in-Misaligned : goal.returns-in-Misaligned
-unfolding store
-returns-in-Misaligned c = rw (found c.args.memory.now c.args.base c.args.offset c.bytes_stored-size.ensures c.locate-place.ensures ∙ ap of_place c.in-Misaligned.is)
-
-pub returns-in-Outside : goal.returns-in-Outside
-unfolding store
-returns-in-Outside c = rw (found c.args.memory.now c.args.base c.args.offset c.bytes_stored-size.ensures c.locate-place.ensures ∙ ap of_place c.in-Outside.is)
+returns c =
+    rw (found c.args.memory.now c.args.base c.args.offset c.bytes_stored-size.ensures c.locate.ensures ∙ ap of_result c.in_ok-to.was)
+    (ap (store_result (Ok tt)) c.write.ensures)
