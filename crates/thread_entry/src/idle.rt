@@ -7,11 +7,5 @@ use crate::status::Status;
 pub fn is_idle(status: Status) -> bool
     ensures { result ≡ is_idle status }
 {
-    match status {
-        Status::Idle => true,
-        Status::Running => false,
-        Status::Ended => false,
-        Status::Trapped(_) => false,
-        Status::Waiting(_, _) => false,
-    }
+    matches!(status, Status::Idle)
 }

@@ -8,24 +8,12 @@ use crate::status::Status;
 pub fn waits_at(status: Status, id: u8) -> bool
     ensures { result ≡ waits_at id status }
 {
-    match status {
-        Status::Idle => false,
-        Status::Running => false,
-        Status::Ended => false,
-        Status::Trapped(_) => false,
-        Status::Waiting(i, _) => i == id,
-    }
+    matches!(status, Status::Waiting(i, _) if i == id)
 }
 
 // Whether it waits at a barrier with another count.
 pub fn waits_otherwise(status: Status, id: u8, count: u8) -> bool
     ensures { result ≡ waits_otherwise id count status }
 {
-    match status {
-        Status::Idle => false,
-        Status::Running => false,
-        Status::Ended => false,
-        Status::Trapped(_) => false,
-        Status::Waiting(i, c) => (i == id) & (c != count),
-    }
+    matches!(status, Status::Waiting(i, c) if i == id && c != count)
 }

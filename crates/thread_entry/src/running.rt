@@ -7,11 +7,5 @@ use crate::status::Status;
 pub fn is_running(status: Status) -> bool
     ensures { result ≡ is_running status }
 {
-    match status {
-        Status::Idle => false,
-        Status::Running => true,
-        Status::Ended => false,
-        Status::Trapped(_) => false,
-        Status::Waiting(_, _) => false,
-    }
+    matches!(status, Status::Running)
 }

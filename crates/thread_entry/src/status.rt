@@ -3,7 +3,7 @@ ghost use Rattle.std.specs.Prelude.{◌≡◌};
 ghost use Rattle.thread_entry.specs.Entry.{entry_of, many_more};
 
 // Trapped carries a reason; Waiting carries a barrier id and a count.
-#[derive(Clone, Copy)]
+#[derive(Clone, Copy, Debug, PartialEq, Eq)]
 pub enum Status {
     Idle,
     Running,
@@ -13,7 +13,7 @@ pub enum Status {
 }
 
 // `turns` is how many issues the thread has had since its start, modulo 2^32.
-#[derive(Clone, Copy)]
+#[derive(Clone, Copy, Debug, PartialEq, Eq)]
 pub struct Thread {
     pub status: Status,
     pub turns: u32,
@@ -23,17 +23,18 @@ pub struct Thread {
 pub const GREATEST_BARRIER: u8 = 31;
 
 // The greatest trap reason and the greatest barrier id that a record may hold.
-#[derive(Clone, Copy)]
+#[derive(Clone, Copy, Debug, PartialEq, Eq)]
 pub struct Limits {
     pub reason: u8,
     pub barrier: u8,
 }
 
 // A count with so many issues more: it wraps at 2^32.
+#[tactic(auto, using(crate::proofs::Counts::many_more_lem))]
 pub fn many_more(turns: u32, issues: u64) -> u32
     ensures { result ≡ many_more issues turns }
 {
-    std::num::wrapping_add_u32(turns, (issues % 0x100000000) as u32)
+    turns.wrapping_add((issues % 0x100000000) as u32)
 }
 
 impl Thread {

@@ -7,11 +7,5 @@ use crate::status::Status;
 pub fn is_waiting(status: Status) -> bool
     ensures { result ≡ is_waiting status }
 {
-    match status {
-        Status::Idle => false,
-        Status::Running => false,
-        Status::Ended => false,
-        Status::Trapped(_) => false,
-        Status::Waiting(_, _) => true,
-    }
+    matches!(status, Status::Waiting(..))
 }
