@@ -26,3 +26,9 @@ read_next before text i h = rw (add-one i, drop-cons text i 0 h)
 pub read-end : (before : Option ℕ) (text : List ℕ) (i : ℕ) → i ≡ length text → with_digits before (drop i text) ≡ before
 unfolding with_digits
 read-end before text i e = rw (e, drop-length text)
+
+-- what is refused stays so
+pub refused_stays : (text : List ℕ) → with_digits none text ≡ none
+unfolding with_digits
+refused_stays [] = refl
+refused_stays (byte ∷ text) = refused_stays text

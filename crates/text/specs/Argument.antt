@@ -1,12 +1,12 @@
 -- A number as an argument gives it: decimal digits and nothing else, at most 4,294,967,295.
-use Rattle.std.specs.Prelude.{ℕ, ◌+◌, ◌-◌, ◌*◌, Bool, ◌||◌, cond, List, [], ◌∷◌, ltb}
+use Rattle.std.specs.Prelude.{ℕ, ◌+◌, ◌-◌, ◌*◌, Bool, ◌||◌, cond, List, [], ◌∷◌, ltb, Some, None}
+use Rattle.std.specs.Prelude as R
 use Rattle.std.proofs.Math.Option.{Option, none, some}
-use Rattle.text.specs.Types.{Argument, Number, Refused}
 
 -- what an argument is read as, as the code says it
-abbrev pub given : Argument → Option ℕ
-given (Number n) = some n
-given Refused = none
+abbrev pub given : R.Option ℕ → Option ℕ
+given (Some n) = some n
+given None = none
 
 -- whether a byte is no digit, `0` to `9`
 abbrev pub no_digit : ℕ → Bool

@@ -1,5 +1,4 @@
 -- Text in a lent buffer, and numbers read from text: what the contracts cite.
-pub mod Types
 pub mod Number
 pub mod Buffer
 pub mod Parts

@@ -7,4 +7,4 @@ mod parsing;
 
 pub use buffer::put_text;
 pub use number::{hex_of, put_decimal, put_long};
-pub use parsing::{Argument, number_of};
+pub use parsing::number_of;

@@ -11,9 +11,9 @@ fn digit_of(n: u32) -> u8
     ensures { result ≡ digit n }
 {
     if n < 10 {
-        (48 + n) as u8
+        b'0' + n as u8
     } else {
-        (55 + n) as u8
+        b'A' + (n - 10) as u8
     }
 }
 
@@ -46,5 +46,5 @@ pub fn put_long(out: &mut [u8], at: usize, n: u64) -> usize
 pub fn put_decimal(out: &mut [u8], at: usize, n: u32) -> usize
     ensures { wrote result out.new ≡ puts (wrote at out.old) (decimal n) }
 {
-    put_long(out, at, n as u64)
+    put_long(out, at, u64::from(n))
 }

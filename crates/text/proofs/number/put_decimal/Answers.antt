@@ -4,4 +4,4 @@ use Rattle.text.proofs.Digits.{long-is}
 use Rattle.text.proofs.number.put_decimal.Goals as goal
 
 pub returns : goal.returns
-returns c = rw (long-is c.args.n (omega arith)) at c.put_long.ensures
+returns c = rw (c.from.ensures, long-is c.args.n (omega arith)) at c.put_long.ensures

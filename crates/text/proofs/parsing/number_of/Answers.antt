@@ -1,25 +1,27 @@
 -- `number_of` meets its contract: after i turns the bytes from i on are still to be read.
-use mathlib.Core.Path.{◌≡◌, refl, sym, ◌∙◌}
-use native.Mathlib.Omega.{arith}
-use lib.ListN.{length}
-use Rattle.text.proofs.Arguments.{empty, filled, read_next, read-end}
-use Rattle.text.specs.Argument.{given}
+use Rattle.std.proofs.Common.{rules, ℕ, ◌≡◌, ◌+◌, length, drop, ap, sym, ◌∙◌, arith}
+use Rattle.std.proofs.Math.Option.{Option, some}
+use Rattle.text.specs.Argument.{with_digits}
+use Rattle.text.proofs.Arguments.{filled, read_next, read-end, refused_stays}
 use Rattle.text.proofs.parsing.number_of.Goals as goal
+
+pub returns-in_err-read : goal.returns-in_err-read
+returns-in_err-read c =
+    let t = c.args.text.now in
+    let l = c.loop-byte in
+    let rest = drop (l.byte-index + 1) t in
+    rw c.from_residual.ensures
+    (sym (refused_stays rest) ∙ ap (λ (n : Option ℕ). with_digits n rest) c.in_err-read.ensures ∙ sym (read_next (some l.read) t l.byte-index (omega arith)) ∙
+    l.invariant ∙ sym (filled t (search rules)))
+
+pub loop-byte-preserved : goal.loop-byte-preserved
+loop-byte-preserved c =
+    let l = c.loop-byte in
+    rw c.in_ok-read.ensures (sym (read_next (some l.read) c.args.text.now l.byte-index (omega arith)) ∙ l.invariant)
 
 pub returns : goal.returns
 returns c =
     let t = c.args.text.now in
-    let l = c.loop-i in
-    let e : l.i ≡ length t = omega arith in
-    sym (read-end (given l.read) t l.i e) ∙ l.invariant.0 ∙ sym (filled t c.if-text-eq0.false)
-
-pub loop-i-preserved : goal.loop-i-preserved
-loop-i-preserved c =
-    let l = c.loop-i in
-    (rw c.with_digit-read.ensures (sym (read_next (given l.read) c.args.text.now l.i (omega arith)) ∙ l.invariant.0), omega arith)
-
-pub returns-then-text-eq0 : goal.returns-then-text-eq0
-returns-then-text-eq0 c = sym (empty c.args.text.now c.if-text-eq0.true)
-
-pub loop-i-init : goal.loop-i-init
-loop-i-init c = (refl, omega arith)
+    let l = c.loop-byte in
+    let e : l.byte-index ≡ length t = omega arith in
+    sym (read-end (some l.read) t l.byte-index e) ∙ l.invariant ∙ sym (filled t (search rules))
