@@ -1,7 +1,7 @@
 -- The thread chosen is the nearest that runs, and the lowest set bit of the mask that goes round.
 use Prim.Native.Nat.{ℕ, suc, ◌+◌, ◌-◌, ◌*◌, ◌/◌, ◌%◌, ◌^◌, ◌<◌, ◌≤◌}
 use mathlib.Core.Bool.{Bool, true, false, cond}
-use mathlib.Core.Option.{Option, none, some}
+use Rattle.std.specs.Prelude.{Option, Some, None}
 use mathlib.Core.Path.{◌≡◌, refl, sym, ap, subst, ◌∙◌}
 use native.Mathlib.Omega.{arith}
 use borrow.Author.Tests.{ltb-true}
@@ -9,9 +9,9 @@ use lib.Count.{count_trailing_zeros}
 use lib.Dec.{ltb}
 use Rattle.machine.specs.Claims.{FirstAfterLast, Chooses, ChoosesNone, Turned}
 use Rattle.machine.specs.Machine.{thread_numbers}
-use Rattle.machine.specs.Scheduler.{runs, after, chosen_at, choice, after_choice, choose}
+use Rattle.machine.specs.Scheduler.{runs, after, chosen, chosen_at, choice, after_choice, choose}
 use Rattle.machine.specs.Search.{first, mask_of}
-use Rattle.machine.specs.Types.{Machine, Chosen, NoneRunning, Turn}
+use Rattle.machine.specs.Types.{Machine, Chosen, Turn}
 use Rattle.machine.proofs.Loops.{from}
 use Rattle.machine.proofs.Nearest.{Nowhere, Found, found, lowest, first-at, first-nowhere, mask_of-lt, mask_of-odd, mask_of-nowhere, nowhere-mask_of, mask_of-shift, first-lowest, mask_of-same}
 
@@ -58,42 +58,42 @@ ahead-mask_of m =
     ∙ mask_of-same (λ t. runs m (t % 8)) (runs_after m) (0 + (l + 1)) 1 (8 + (7 - l)) (λ j. ap (runs m) (omega arith)))
 
 -- where no bit is set none is chosen, and else the thread of the lowest one
-pub nothing-set : (m : Machine) → mask m ≡ 0 → choice m ≡ NoneRunning
+pub nothing-set : (m : Machine) → mask m ≡ 0 → choice m ≡ None
 unfolding from
 nothing-set m h = choice-at m (first-nowhere (runs_after m) 1 8 (none_after m (mask_of-nowhere (runs m) 0 8 h)))
 
 unfoldable pub zeros : Machine → ℕ
 zeros m = count_trailing_zeros 32 (ahead m)
 
-pub one_set : (m : Machine) → (mask m ≡ 0 → ⊥) → (zeros m < 8) × (choice m ≡ Chosen (after m (zeros m + 1)) (zeros m + 1))
+pub one_set : (m : Machine) → (mask m ≡ 0 → ⊥) → (zeros m < 8) × (choice m ≡ chosen (after m (zeros m + 1)) (zeros m + 1))
 unfolding zeros lowest from
 one_set m h =
     go (ltb (zeros m) 8) refl
     (first-lowest (runs_after m) 1 8 (7 - m.last % 8) 32 (omega arith) ∙ ap (λ x. lowest 1 8 (count_trailing_zeros 32 x)) (sym (ahead-mask_of m)))
   where
-    go : (b : Bool) → ltb (zeros m) 8 ≡ b → first (runs_after m) (from 1 8) ≡ cond b (some (1 + zeros m)) none
-        → (zeros m < 8) × (choice m ≡ Chosen (after m (zeros m + 1)) (zeros m + 1))
-    go true e f = (ltb-true (zeros m) 8 e, choice-at m f ∙ ap (λ d. Chosen (after m d) d) (omega arith))
+    go : (b : Bool) → ltb (zeros m) 8 ≡ b → first (runs_after m) (from 1 8) ≡ cond b (Some (1 + zeros m)) None
+        → (zeros m < 8) × (choice m ≡ chosen (after m (zeros m + 1)) (zeros m + 1))
+    go true e f = (ltb-true (zeros m) 8 e, choice-at m f ∙ ap (λ d. chosen (after m d) d) (omega arith))
     go false e f = absurd (h (nowhere-mask_of (runs m) 0 8 (none_runs m (subst (Found (runs_after m) 1 8) f (found (runs_after m) 1 8)))))
 
 -- The claims.
 
 -- what the search found, by what is chosen
-was-found : (m : Machine) (t d : ℕ) (r : Option ℕ) → chosen_at m r ≡ Chosen t d → (r ≡ some d) × (t ≡ after m d)
-was-found m t d none h = absurd (let z : ◌≡◌ {A = ℕ} 0 1 = cc in omega arith)
-was-found m t d (some k) h =
-    let e : k ≡ d = cc in
-    let f : after m k ≡ t = cc in
-    (ap some e, sym f ∙ ap (after m) e)
+was-found : (m : Machine) (t d : ℕ) (r : Option ℕ) → chosen_at m r ≡ chosen t d → (r ≡ Some d) × (t ≡ after m d)
+was-found m t d None h = cc
+was-found m t d (Some k) h =
+    let same : record { thread = after m k; distance = k } ≡ record { thread = t; distance = d } = cc in
+    let e : k ≡ d = ap (λ (c : Chosen). c.distance) same in
+    (ap Some e, sym (ap (λ (c : Chosen). c.thread) same) ∙ ap (after m) e)
 
-none_found : (m : Machine) (r : Option ℕ) → chosen_at m r ≡ NoneRunning → r ≡ none
-none_found m none h = refl
-none_found m (some k) h = absurd (let z : ◌≡◌ {A = ℕ} 0 1 = cc in omega arith)
+none_found : (m : Machine) (r : Option ℕ) → chosen_at m r ≡ None → r ≡ None
+none_found m None h = refl
+none_found m (Some k) h = cc
 
 pub chooses : Chooses
 chooses m t d = (there, back)
   where
-    there : choice m ≡ Chosen t d → FirstAfterLast m t d
+    there : choice m ≡ chosen t d → FirstAfterLast m t d
     there h =
         let e = was-found m t d (first (runs_after m) (from 1 8)) (sym (choice-at m refl) ∙ h) in
         let f = subst (Found (runs_after m) 1 8) e.0 (found (runs_after m) 1 8) in
@@ -105,21 +105,21 @@ chooses m t d = (there, back)
           nearest = f.0.before;
         }
 
-    back : FirstAfterLast m t d → choice m ≡ Chosen t d
+    back : FirstAfterLast m t d → choice m ≡ chosen t d
     back h =
         choice-at m
         (first-at (runs_after m) 1 8 d (record { after = h.low; passes = ap (runs m) (sym h.place) ∙ h.running; before = h.nearest }) (omega (arith, h.high)))
-        ∙ ap (λ u. Chosen u d) (sym h.place)
+        ∙ ap (λ u. chosen u d) (sym h.place)
 
 pub chooses_none : ChoosesNone
 chooses_none m = (there, back)
   where
-    there : choice m ≡ NoneRunning → (t : ℕ) → t < 8 → runs m t ≡ false
+    there : choice m ≡ None → (t : ℕ) → t < 8 → runs m t ≡ false
     there h t l =
         let e = none_found m (first (runs_after m) (from 1 8)) (sym (choice-at m refl) ∙ h) in
         none_runs m (subst (Found (runs_after m) 1 8) e (found (runs_after m) 1 8)) t (omega arith) (omega arith)
 
-    back : ((t : ℕ) → t < 8 → runs m t ≡ false) → choice m ≡ NoneRunning
+    back : ((t : ℕ) → t < 8 → runs m t ≡ false) → choice m ≡ None
     back h = choice-at m (first-nowhere (runs_after m) 1 8 (none_after m (λ t a b. h t (omega arith))))
 
 -- a thread runs whose bit is set
@@ -137,7 +137,7 @@ bit-runs m t l e =
     go false e = absurd (omega arith)
 
 -- the thread after "last" runs: it is chosen
-pub following : (m : Machine) (t : ℕ) → t ≡ (m.last % 8 + 1) % 8 → mask m / 2 ^ t % 2 ≡ 1 → choice m ≡ Chosen t 1
+pub following : (m : Machine) (t : ℕ) → t ≡ (m.last % 8 + 1) % 8 → mask m / 2 ^ t % 2 ≡ 1 → choice m ≡ chosen t 1
 following m t e one =
     (chooses m t 1).1
     (record {

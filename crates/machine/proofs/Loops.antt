@@ -1,18 +1,18 @@
 -- Laws of the loops over the eight threads: one that searches or counts goes by `from`, one that changes every entry by `changed`.
 use Prim.Native.Nat.{ℕ, zero, suc, ◌+◌, ◌-◌, ◌<◌, ◌≤◌}
-use mathlib.Core.Bool.{Bool, true, false, cond}
+use mathlib.Core.Bool.{Bool, true, false}
 use mathlib.Core.Path.{◌≡◌, refl, sym, ap, ◌∙◌}
-use mathlib.Core.List.{List, [], ◌∷◌, map}
+use mathlib.Core.List.{List, [], ◌∷◌}
 use native.Mathlib.Numerals.{add-one}
 use native.Mathlib.Omega.{arith}
-use borrow.Author.Tests.{eqb-true, eqb-false, ltb-true, ltb-false}
-use lib.Dec.{eqb, ltb}
+use borrow.Author.Tests.{ltb-true, ltb-false}
+use lib.Dec.{ltb}
 use lib.ListN.{length, get_or, set}
-use lib.Seq.{set-get_or, set_out}
+use lib.Seq.{set_out}
 use Rattle.thread_entry.specs.Entry.{zero_thread, with_status, with_count}
-use Rattle.machine.specs.Machine.{any_thread, count_threads, status_at, with_status_at, with_counts}
+use Rattle.machine.specs.Machine.{any_thread, count_threads, with_counts}
 use Rattle.machine.specs.Search.{any, count}
-use Rattle.machine.specs.Types.{Status, Thread, Machine}
+use Rattle.machine.specs.Types.{Status, Thread}
 
 -- n numbers from k up
 unfoldable pub from : ℕ → ℕ → List ℕ
@@ -86,10 +86,6 @@ changed f xs zero = xs
 changed f [] (suc t) = []
 changed f (x ∷ xs) (suc t) = f 0 x ∷ changed (λ u. f (suc u)) xs t
 
--- the record with its entries so
-abbrev pub changed_to : (ℕ → Thread → Thread) → Machine → ℕ → Machine
-changed_to f m t = record { enabled = m.enabled; last = m.last; threads = changed f m.threads t }
-
 pub changed-next : {A : Type 0} (f : ℕ → A → A) (xs : List A) (t : ℕ) (d : A) → get_or (changed f xs t) t d ≡ get_or xs t d
 unfolding changed
 changed-next f xs zero d = refl
@@ -103,28 +99,17 @@ changed-suc f [] t d l = absurd (omega arith)
 changed-suc f (x ∷ xs) zero d l = refl
 changed-suc {A} f (x ∷ xs) (suc t) d l = ap {B = List A} (λ r. f 0 x ∷ r) (changed-suc (λ u. f (suc u)) xs t d (omega arith))
 
--- the next thread's status is as it was
-pub status-next : (f : ℕ → Thread → Thread) (m : Machine) (t : ℕ) → status_at (changed_to f m t) t ≡ status_at m t
-status-next f m t = ap (λ e. e.status) (changed-next f m.threads t zero_thread)
-
--- and changing it makes one more
-pub change : (f : ℕ → Thread → Thread) (m : Machine) (t : ℕ) → t < length m.threads
-    → record { enabled = m.enabled; last = m.last; threads = set (changed f m.threads t) t (f t (get_or (changed f m.threads t) t zero_thread)) } ≡ changed_to f m (t + 1)
-change f m t l =
-    ap (λ xs. record { enabled = m.enabled; last = m.last; threads = xs })
-    (ap (λ e. set (changed f m.threads t) t (f t e)) (changed-next f m.threads t zero_thread)
-    ∙ (changed-suc f m.threads t zero_thread l ∙ ap (changed f m.threads) (sym (add-one t))))
+-- changing the next makes one more
+pub change : {A : Type 0} (f : ℕ → A → A) (xs : List A) (t : ℕ) (d : A) (now : List A) → now ≡ changed f xs t → t < length xs
+    → set now t (f t (get_or now t d)) ≡ changed f xs (t + 1)
+change f xs t d now e l =
+    (λ i. set (e i) t (f t (get_or (e i) t d)))
+    ∙ ap (λ x. set (changed f xs t) t (f t x)) (changed-next f xs t d)
+    ∙ changed-suc f xs t d l ∙ ap (changed f xs) (sym (add-one t))
 
 -- each status by a rule
 abbrev pub restating : (ℕ → Status) → ℕ → Thread → Thread
 restating s t entry = with_status entry (s t)
-
--- where it goes by the entry alone, restating all of them is a map
-pub restated-map : (f : Status → Status) (xs : List Thread)
-    → changed (restating (λ u. f (get_or xs u zero_thread).status)) xs (length xs) ≡ map (λ x. with_status x (f x.status)) xs
-unfolding changed
-restated-map f [] = refl
-restated-map f (x ∷ xs) = ap {B = List Thread} (λ r. with_status x (f x.status) ∷ r) (restated-map f xs)
 
 -- each count from a list
 abbrev pub recounting : List ℕ → ℕ → Thread → Thread
@@ -136,32 +121,29 @@ recounted turns [] = refl
 recounted [] (x ∷ xs) = ap {B = List Thread} (λ r. with_count x 0 ∷ r) (recounted [] xs)
 recounted (n ∷ turns) (x ∷ xs) = ap {B = List Thread} (λ r. with_count x n ∷ r) (recounted turns xs)
 
--- where one thread's status is looked for and the others are written as they were: so far it has the status, or is still to come
-pub record Placed (m : Machine) (thread : ℕ) (s : Status) (t : ℕ) (now : Machine) : Type 0 where
-  pub passed : thread < t → now ≡ with_status_at m thread s
-  pub ahead : t ≤ thread → now ≡ m
+-- an entry with a status, in its list
+abbrev pub placed : List Thread → ℕ → Status → List Thread
+placed xs thread s = set xs thread (with_status (get_or xs thread zero_thread) s)
 
-pub placed-step : (m : Machine) (thread : ℕ) (s : Status) (t : ℕ) (now : Machine) → Placed m thread s t now
-    → Placed m thread s (t + 1) (with_status_at now t (cond (eqb t thread) s (status_at now t)))
-placed-step m thread s t now k = go (eqb t thread) refl
-  where
-    go : (b : Bool) → eqb t thread ≡ b → Placed m thread s (t + 1) (with_status_at now t (cond b s (status_at now t)))
-    go true e =
-        let f : t ≡ thread = eqb-true t thread e in
-        record { passed = λ l. (λ i. with_status_at (k.ahead (omega arith) i) (f i) s); ahead = λ l. absurd (omega arith) }
-    go false e =
-        let f : with_status_at now t (status_at now t) ≡ now =
-        ap (λ xs. record { enabled = now.enabled; last = now.last; threads = xs }) (set-get_or now.threads t zero_thread) in
-        record { passed = λ l. f ∙ k.passed (omega (arith, eqb-false t thread e)); ahead = λ l. f ∙ k.ahead (omega arith) }
+-- where one thread is looked for: so far it has the status, or is still to come
+pub record Placed (xs : List Thread) (thread : ℕ) (s : Status) (t : ℕ) (now : List Thread) : Type 0 where
+  pub passed : thread < t → now ≡ placed xs thread s
+  pub ahead : t ≤ thread → now ≡ xs
+
+pub placed-here : (xs : List Thread) (thread : ℕ) (s : Status) (t : ℕ) (now : List Thread) → Placed xs thread s t now → t ≡ thread
+    → Placed xs thread s (t + 1) (placed now t s)
+placed-here xs thread s t now k e =
+    record { passed = λ l. (λ i. placed (k.ahead (omega arith) i) (e i) s); ahead = λ l. absurd (omega arith) }
+
+pub placed-on : (xs : List Thread) (thread : ℕ) (s : Status) (t : ℕ) (now : List Thread) → Placed xs thread s t now → (t ≡ thread → ⊥)
+    → Placed xs thread s (t + 1) now
+placed-on xs thread s t now k n = record { passed = λ l. k.passed (omega (arith, n)); ahead = λ l. k.ahead (omega arith) }
 
 -- past the last entry it has the status; where there is no such thread, nothing had to change
-pub placed_end : (m : Machine) (thread : ℕ) (s : Status) (t : ℕ) (now : Machine) → Placed m thread s t now → length m.threads ≤ t
-    → now ≡ with_status_at m thread s
-placed_end m thread s t now k l = go (ltb thread t) refl
+pub placed_end : (xs : List Thread) (thread : ℕ) (s : Status) (t : ℕ) (now : List Thread) → Placed xs thread s t now → length xs ≤ t → now ≡ placed xs thread s
+placed_end xs thread s t now k l = go (ltb thread t) refl
   where
-    go : (b : Bool) → ltb thread t ≡ b → now ≡ with_status_at m thread s
+    go : (b : Bool) → ltb thread t ≡ b → now ≡ placed xs thread s
     go true e = k.passed (ltb-true thread t e)
     go false e =
-        k.ahead (ltb-false thread t e)
-        ∙ ap (λ xs. record { enabled = m.enabled; last = m.last; threads = xs })
-        (sym (set_out m.threads thread (with_status (get_or m.threads thread zero_thread) s) (omega (arith, ltb-false thread t e))))
+        k.ahead (ltb-false thread t e) ∙ sym (set_out xs thread (with_status (get_or xs thread zero_thread) s) (omega (arith, ltb-false thread t e)))

@@ -4,11 +4,12 @@ use mathlib.Core.Bool.{Bool, true, false, ◌&&◌, ◌||◌, not}
 use mathlib.Core.Path.{◌≡◌, refl}
 use borrow.Author.Tests.{ltb-false}
 use lib.Dec.{ltb, eqb}
-use Rattle.machine.specs.Barrier.{refuses_barrier}
+use Rattle.machine.specs.Barrier.{released, refuses_barrier}
 use Rattle.machine.specs.Machine.{status_at}
+use Rattle.thread_entry.specs.Entry.{with_status}
 use Rattle.thread_entry.specs.Status.{is_waiting, waits_at, waits_otherwise}
 use Rattle.machine.specs.WellFormed.{disputed}
-use Rattle.machine.specs.Types.{Status, Idle, Running, Ended, Trapped, Waiting, Machine}
+use Rattle.machine.specs.Types.{Status, Idle, Running, Ended, Trapped, Waiting, Thread, Machine}
 use Rattle.machine.proofs.Tests.{never, neither}
 
 -- thread u waits at the barrier, is another that waits there, and disputes the count
@@ -20,6 +21,10 @@ other_waits m thread id u = not (eqb u thread) && waits_at id (status_at m u)
 
 abbrev pub disputes : Machine → ℕ → ℕ → ℕ → ℕ → Bool
 disputes m thread id count u = not (eqb u thread) && waits_otherwise id count (status_at m u)
+
+-- an entry once a barrier is released
+abbrev pub freed : ℕ → Thread → Thread
+freed id entry = with_status entry (released id entry.status)
 
 -- who does not wait, waits nowhere, and who does not wait there does not name another count there
 pub waits-nowhere : (id : ℕ) (s : Status) → is_waiting s ≡ false → waits_at id s ≡ false

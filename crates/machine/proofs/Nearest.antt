@@ -1,7 +1,7 @@
 -- The first number that passes a test, found by a search and as the lowest set bit.
 use Prim.Native.Nat.{ℕ, zero, suc, ◌+◌, ◌*◌, ◌/◌, ◌%◌, ◌^◌, ◌<◌, ◌≤◌}
 use mathlib.Core.Bool.{Bool, true, false, cond}
-use mathlib.Core.Option.{Option, none, some}
+use Rattle.std.specs.Prelude.{Option, Some, None}
 use mathlib.Core.Path.{◌≡◌, refl, sym, ap, ◌∙◌}
 use native.Mathlib.Decide.{ℕ_discrete, dec_lt}
 use native.Mathlib.Nat.{pow-succ'}
@@ -26,7 +26,7 @@ Nowhere p k n = (j : ℕ) → k ≤ j → j < k + n → p j ≡ false
 
 -- the number from k up at which the lowest set bit stands, if it is among the first n
 unfoldable pub lowest : ℕ → ℕ → ℕ → Option ℕ
-lowest k n zeros = cond (ltb zeros n) (some (k + zeros)) none
+lowest k n zeros = cond (ltb zeros n) (Some (k + zeros)) None
 
 lowest-suc : (k n zeros : ℕ) → lowest (suc k) n zeros ≡ lowest k (suc n) (suc zeros)
 unfolding lowest
@@ -50,18 +50,18 @@ module _ (p : ℕ → Bool) where
 
   -- what a search through n numbers from k up answers
   abbrev pub Found : ℕ → ℕ → Option ℕ → Type 0
-  Found k n none = Nowhere p k n
-  Found k n (some d) = Nearest p k d × (d < k + n)
+  Found k n None = Nowhere p k n
+  Found k n (Some d) = Nearest p k d × (d < k + n)
 
   pub found : (k n : ℕ) → Found k n (first p (from k n))
   unfolding first from
   found k zero = λ j a b. absurd (omega arith)
   found k (suc n) = go (p k) refl (first p (from (suc k) n)) (found (suc k) n)
     where
-      go : (b : Bool) → p k ≡ b → (r : Option ℕ) → Found (suc k) n r → Found k (suc n) (cond b (some k) r)
+      go : (b : Bool) → p k ≡ b → (r : Option ℕ) → Found (suc k) n r → Found k (suc n) (cond b (Some k) r)
       go true h r f = (record { after = omega arith; passes = h; before = λ j a b. absurd (omega arith) }, omega arith)
-      go false h none f = none_more k n h f
-      go false h (some d) f = (later k d h f.0, omega (arith, f.1))
+      go false h None f = none_more k n h f
+      go false h (Some d) f = (later k d h f.0, omega (arith, f.1))
 
   -- there is one answer
   same : (k d e : ℕ) → Nearest p k d → Nearest p k e → d ≡ e
@@ -72,19 +72,19 @@ module _ (p : ℕ → Bool) where
       go (no l) (yes g) = never b.passes (a.before e b.after g)
       go (no l) (no g) = omega (arith, l, g)
 
-  pub first-at : (k n d : ℕ) → Nearest p k d → d < k + n → first p (from k n) ≡ some d
+  pub first-at : (k n d : ℕ) → Nearest p k d → d < k + n → first p (from k n) ≡ Some d
   first-at k n d h l = go (first p (from k n)) (found k n)
     where
-      go : (r : Option ℕ) → Found k n r → r ≡ some d
-      go none f = never h.passes (f d h.after l)
-      go (some e) f = ap some (same k e d f.0 h)
+      go : (r : Option ℕ) → Found k n r → r ≡ Some d
+      go None f = never h.passes (f d h.after l)
+      go (Some e) f = ap Some (same k e d f.0 h)
 
-  pub first-nowhere : (k n : ℕ) → Nowhere p k n → first p (from k n) ≡ none
+  pub first-nowhere : (k n : ℕ) → Nowhere p k n → first p (from k n) ≡ None
   first-nowhere k n h = go (first p (from k n)) (found k n)
     where
-      go : (r : Option ℕ) → Found k n r → r ≡ none
-      go none f = refl
-      go (some e) f = never f.0.passes (h e f.0.after f.1)
+      go : (r : Option ℕ) → Found k n r → r ≡ None
+      go None f = refl
+      go (Some e) f = never f.0.passes (h e f.0.after f.1)
 
   -- the bits of the answers: one more halved away, none set, and how large they are
   mask_of-half : (k n : ℕ) → mask_of p (from k (suc n)) / 2 ≡ mask_of p (from (suc k) n)
@@ -111,6 +111,20 @@ module _ (p : ℕ → Bool) where
       go : (b : Bool) → mask_of p (from (suc k) n) < 2 ^ n → cond b 1 0 + 2 * mask_of p (from (suc k) n) < 2 ^ suc n
       go true l = omega (arith, pow-succ' 2 n)
       go false l = omega (arith, pow-succ' 2 n)
+
+  twice-cond : (b : Bool) (x y : ℕ) → y ≡ 2 * x → 2 * cond b x 0 ≡ cond b y 0
+  twice-cond true x y e = sym e
+  twice-cond false x y e = refl
+
+  -- one more test at the end, whose bit is the highest
+  pub mask_of-more : (k n : ℕ) → mask_of p (from k (suc n)) ≡ mask_of p (from k n) + cond (p (k + n)) (2 ^ n) 0
+  unfolding mask_of from
+  mask_of-more k zero = let e : k + 0 ≡ k = omega arith in rw e (omega arith)
+  mask_of-more k (suc n) =
+      let e : suc k + n ≡ k + suc n = omega arith in
+      let d = twice-cond (p (k + suc n)) (2 ^ n) (2 ^ suc n) (omega (arith, pow-succ' 2 n)) in
+      let g : mask_of p (from (suc k) (suc n)) ≡ mask_of p (from (suc k) n) + cond (p (k + suc n)) (2 ^ n) 0 = rw (← e) (mask_of-more (suc k) n) in
+      omega arith
 
   pub mask_of-nowhere : (k n : ℕ) → mask_of p (from k n) ≡ 0 → Nowhere p k n
   unfolding mask_of from
@@ -153,7 +167,7 @@ module _ (p : ℕ → Bool) where
       rw e (go (p k) (first-lowest (suc k) n r w (omega arith)) ∙ sym (ap (lowest k (suc n)) (trailing-mask_of k (n + r) w)))
     where
       go : (b : Bool) → first p (from (suc k) n) ≡ lowest (suc k) n (count_trailing_zeros w (mask_of p (from (suc k) (n + r))))
-          → cond b (some k) (first p (from (suc k) n)) ≡ lowest k (suc n) (under (cond b 1 0) (count_trailing_zeros w (mask_of p (from (suc k) (n + r)))))
+          → cond b (Some k) (first p (from (suc k) n)) ≡ lowest k (suc n) (under (cond b 1 0) (count_trailing_zeros w (mask_of p (from (suc k) (n + r)))))
       go true h = let f : k + 0 ≡ k = omega arith in rw (lt-ltb 0 (suc n) (omega arith), f)
       go false h = h ∙ lowest-suc k n (count_trailing_zeros w (mask_of p (from (suc k) (n + r))))
 

@@ -48,6 +48,20 @@ module _ (p : ℕ → Bool) where
       go true e = refl
       go false e = e
 
+  count-few : (k n : ℕ) → count p (from k n) ≤ n
+  unfolding count from
+  count-few k zero = omega arith
+  count-few k (suc n) = go (p k) (count-few (suc k) n)
+    where
+      go : (b : Bool) → count p (from (suc k) n) ≤ n → cond b (suc (count p (from (suc k) n))) (count p (from (suc k) n)) ≤ suc n
+      go true l = omega arith
+      go false l = omega arith
+
+  -- there are eight
+  pub threads-few : count_threads p ≤ 8
+  unfolding count_threads from
+  threads-few = count-few 0 8
+
   -- no thread passes
   pub none-at : any_thread p ≡ false → (t : ℕ) → t < 8 → p t ≡ false
   unfolding any_thread all_threads

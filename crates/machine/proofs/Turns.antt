@@ -3,7 +3,7 @@ use Prim.Native.Nat.{ℕ, zero, suc, ◌+◌, ◌<◌}
 use mathlib.Core.Bool.{Bool, true, false, cond, not, ◌&&◌, ◌||◌}
 use mathlib.Core.List.{List, [], ◌∷◌, map}
 use mathlib.Core.Logic.{inl}
-use mathlib.Core.Option.{Option, none, some}
+use Rattle.std.specs.Prelude.{Option, Some, None}
 use mathlib.Core.Path.{◌≡◌, refl, sym, ap, ◌∙◌}
 use native.Mathlib.Omega.{arith}
 use lib.Dec.{eqb, ltb}
@@ -103,8 +103,8 @@ module _ (m : Machine) (ns : List ℕ) where
   status t = put-status m.threads ns t
 
   chosen_at_lem : (d : Option ℕ) → chosen_at (with_turns m ns) d ≡ chosen_at m d
-  chosen_at_lem none = refl
-  chosen_at_lem (some d) = refl
+  chosen_at_lem None = refl
+  chosen_at_lem (Some d) = refl
 
   chosen : choice (with_turns m ns) ≡ choice m
   unfolding choice

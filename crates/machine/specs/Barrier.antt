@@ -1,5 +1,5 @@
 -- Meeting at a barrier (document 01, "Meeting at a barrier").
-use Rattle.std.specs.Prelude.{ℕ, ◌+◌, ◌≤◌, Bool, true, false, not, ◌&&◌, ◌||◌, cond, map, ◌≡◌, ltb, eqb}
+use Rattle.std.specs.Prelude.{ℕ, ◌+◌, Bool, true, false, not, ◌&&◌, ◌||◌, cond, map, ltb, eqb, Option, Some, None}
 use Rattle.answer.specs.Reason.{barrier-refused}
 use Rattle.thread_entry.specs.Entry.{with_status}
 use Rattle.machine.specs.Machine.{count_threads, status_at, with_status_at, trap}
@@ -35,13 +35,13 @@ arrive_or_trap m t id count =
     (record { trapped = true; machine = trap m t barrier-refused })
     (record { trapped = false; machine = arrive m t id count })
 
--- how many threads wait at a barrier beside one, and a number for them that also says where one of them names another count
+-- how many threads wait at a barrier beside one
 abbrev pub others_waiting : Machine → ℕ → ℕ → ℕ
 others_waiting m t id = count_threads (λ u. not (eqb u t) && waits_at id (status_at m u))
 
-pub record OthersWait (m : Machine) (t id count r : ℕ) : Type 0 where
-  pub disputed-is : disputed m t id count ≡ eqb r 9
-  pub agreed-are : disputed m t id count ≡ false → (r ≡ others_waiting m t id) × (r ≤ 8)
+-- the same where each of them names the count
+abbrev pub agreed_others : Machine → ℕ → ℕ → ℕ → Option ℕ
+agreed_others m t id count = cond (disputed m t id count) None (Some (others_waiting m t id))
 
 -- a meeting of a thread with two register values, and whether it trapped
 unfoldable pub reach_barrier : Machine → ℕ → ℕ → ℕ → BarrierResult

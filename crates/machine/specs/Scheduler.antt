@@ -1,10 +1,9 @@
 -- Which thread is issued next (document 01, "Choosing and counting issues").
-use Rattle.std.specs.Prelude.{ℕ, ◌+◌, ◌%◌, Bool, List, [], ◌∷◌}
-use Rattle.std.proofs.Math.Option.{Option, none, some}
+use Rattle.std.specs.Prelude.{ℕ, ◌+◌, ◌%◌, Bool, List, [], ◌∷◌, Option, Some, None}
 use Rattle.machine.specs.Machine.{any_thread, status_at}
 use Rattle.machine.specs.Search.{first}
 use Rattle.thread_entry.specs.Status.{is_running, is_waiting}
-use Rattle.machine.specs.Types.{Machine, Choice, Chosen, NoneRunning, Turn}
+use Rattle.machine.specs.Types.{Machine, Chosen, Turn}
 
 abbrev pub runs : Machine → ℕ → Bool
 runs m t = is_running (status_at m t)
@@ -16,13 +15,17 @@ after m distance = (m.last + distance) % 8
 abbrev pub distances : List ℕ
 distances = 1 ∷ 2 ∷ 3 ∷ 4 ∷ 5 ∷ 6 ∷ 7 ∷ 8 ∷ []
 
+-- a thread chosen, at its distance
+abbrev pub chosen : ℕ → ℕ → Option Chosen
+chosen t d = Some (record { thread = t; distance = d })
+
 -- the thread chosen at a distance, if at any
-abbrev pub chosen_at : Machine → Option ℕ → Choice
-chosen_at m none = NoneRunning
-chosen_at m (some distance) = Chosen (after m distance) distance
+abbrev pub chosen_at : Machine → Option ℕ → Option Chosen
+chosen_at m None = None
+chosen_at m (Some distance) = chosen (after m distance) distance
 
 -- "the first running thread after "last", going round upwards from 7 to 0"
-unfoldable pub choice : Machine → Choice
+unfoldable pub choice : Machine → Option Chosen
 choice m = chosen_at m (first (λ distance. runs m (after m distance)) distances)
 
 -- the thread "becomes "last""
@@ -30,9 +33,9 @@ abbrev pub with_last : Machine → ℕ → Machine
 with_last m t = record { enabled = m.enabled; last = t; threads = m.threads }
 
 -- the record with which the thread chosen is issued
-abbrev pub after_choice : Machine → Choice → Machine
-after_choice m (Chosen thread distance) = with_last m thread
-after_choice m NoneRunning = m
+abbrev pub after_choice : Machine → Option Chosen → Machine
+after_choice m (Some next) = with_last m next.thread
+after_choice m None = m
 
 -- the choice, with that record
 unfoldable pub choose : Machine → Turn

@@ -1,6 +1,5 @@
 -- Tests over a list: whether all pass, whether one passes, how many pass, the first that passes, and the answers as bits.
-use Rattle.std.specs.Prelude.{ℕ, suc, ◌+◌, ◌*◌, Bool, true, false, ◌&&◌, ◌||◌, cond, List, [], ◌∷◌}
-use Rattle.std.proofs.Math.Option.{Option, none, some}
+use Rattle.std.specs.Prelude.{ℕ, suc, ◌+◌, ◌*◌, Bool, true, false, ◌&&◌, ◌||◌, cond, List, [], ◌∷◌, Option, Some, None}
 
 unfoldable pub all : {A : Type 0} → (A → Bool) → List A → Bool
 all p [] = true
@@ -15,8 +14,8 @@ count p [] = 0
 count p (x ∷ xs) = cond (p x) (suc (count p xs)) (count p xs)
 
 unfoldable pub first : {A : Type 0} → (A → Bool) → List A → Option A
-first p [] = none
-first p (x ∷ xs) = cond (p x) (some x) (first p xs)
+first p [] = None
+first p (x ∷ xs) = cond (p x) (Some x) (first p xs)
 
 -- the number whose bits are the answers, the lowest first
 unfoldable pub mask_of : {A : Type 0} → (A → Bool) → List A → ℕ

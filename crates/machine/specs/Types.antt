@@ -4,7 +4,6 @@ pub use Rattle.thread_entry.specs.declared.status.Status.TheVariants.{Idle, Runn
 pub use Rattle.thread_entry.specs.declared.status.Thread.{Thread}
 pub use Rattle.thread_entry.specs.declared.status.Limits.{Limits}
 pub use Rattle.machine.specs.declared.record.Machine.{Machine}
-pub use Rattle.machine.specs.declared.scheduler.Choice.{Choice}
-pub use Rattle.machine.specs.declared.scheduler.Choice.TheVariants.{Chosen, NoneRunning}
+pub use Rattle.machine.specs.declared.scheduler.Chosen.{Chosen}
 pub use Rattle.machine.specs.declared.scheduler.Turn.{Turn}
 pub use Rattle.machine.specs.declared.barrier.BarrierResult.{BarrierResult}

@@ -1,12 +1,14 @@
 // Meeting at a barrier.
 ghost use Rattle.std.specs.Prelude.{◌%◌, ◌<◌, ◌≡◌};
-ghost use Rattle.machine.specs.Barrier.{released, release, OthersWait, arrive_or_trap, reach_barrier};
+ghost use Rattle.machine.specs.Barrier.{released, release, agreed_others, arrive_or_trap, reach_barrier};
 
 use crate::record::Machine;
+use answer::Reason;
 use thread_entry::{GREATEST_BARRIER, Status, is_waiting, waits_at, waits_otherwise};
 
-// The record after a meeting, and whether the thread was trapped instead of waiting.
-#[derive(Clone, Copy)]
+// The record after a meeting, and whether the thread was trapped instead of waiting. A flag beside the record: there is one in both
+// cases, and a Result of a record or a record is no plainer.
+#[derive(Clone, Copy, Debug, PartialEq, Eq)]
 pub struct BarrierResult {
     pub trapped: bool,
     pub machine: Machine,
@@ -17,41 +19,37 @@ fn released(status: Status, id: u8) -> Status
     ensures { result ≡ released id status }
 {
     if waits_at(status, id) {
-        return Status::Running;
+        Status::Running
+    } else {
+        status
     }
-    status
 }
 
 impl Machine {
-    // How many others wait at a barrier, or 9 where one of them waits there with another count. One pass, which asks first whether an entry
-    // waits at all: few do.
-    fn others(self, thread: usize, id: u8, count: u8) -> usize
-        ensures { OthersWait self thread id count result }
+    // How many others wait at a barrier, unless one of them waits there with another count. One pass, which asks first whether an
+    // entry waits at all: few do.
+    fn others(self, thread: usize, id: u8, count: u8) -> Option<usize>
+        ensures { result ≡ agreed_others self thread id count }
     {
-        let mut n: usize = 0;
-        for t in 0..8 {
-            let status = self.status_at(t);
-            if is_waiting(status) {
-                if (t != thread) & waits_at(status, id) {
-                    if waits_otherwise(status, id, count) {
-                        return 9;
-                    }
-                    n += 1;
+        let mut n = 0;
+        for (t, entry) in self.threads.iter().enumerate() {
+            let status = entry.status;
+            if is_waiting(status) && t != thread && waits_at(status, id) {
+                if waits_otherwise(status, id, count) {
+                    return None;
                 }
+                n += 1;
             }
         }
-        n
+        Some(n)
     }
 
-    // Every thread that waits at a barrier is running. Asked first is, as above, whether an entry waits at all.
+    // Every thread that waits at a barrier is running.
     fn release(mut self, id: u8) -> Machine
         ensures { result ≡ release self id }
     {
-        for t in 0..8 {
-            let status = self.status_at(t);
-            if is_waiting(status) {
-                self = self.with_status(t, released(status, id));
-            }
+        for entry in self.threads.iter_mut() {
+            entry.status = released(entry.status, id);
         }
         self
     }
@@ -62,23 +60,20 @@ impl Machine {
         requires { thread < 8 }
         ensures { result ≡ arrive_or_trap self thread id count }
     {
-        let n = self.others(thread, id, count);
-        if n == 9 {
+        let Some(n) = self.others(thread, id, count) else {
             return BarrierResult {
                 trapped: true,
-                machine: self.trap(thread, 5),
+                machine: self.trap(thread, Reason::BarrierRefused.number()),
             };
-        }
-        if n + 1 == count as usize {
-            let running = self.with_status(thread, Status::Running);
-            return BarrierResult {
-                trapped: false,
-                machine: running.release(id),
-            };
-        }
+        };
+        let machine = if n + 1 == usize::from(count) {
+            self.with_status(thread, Status::Running).release(id)
+        } else {
+            self.with_status(thread, Status::Waiting(id, count))
+        };
         BarrierResult {
             trapped: false,
-            machine: self.with_status(thread, Status::Waiting(id, count)),
+            machine,
         }
     }
 
@@ -88,10 +83,10 @@ impl Machine {
         ensures { result ≡ reach_barrier self (thread % 8) id second }
     {
         let t = thread % 8;
-        if ((GREATEST_BARRIER as u32) < id) | (7 < second) {
+        if (u32::from(GREATEST_BARRIER) < id) | (7 < second) {
             return BarrierResult {
                 trapped: true,
-                machine: self.trap(t, 5),
+                machine: self.trap(t, Reason::BarrierRefused.number()),
             };
         }
         self.arrive(t, id as u8, (second + 1) as u8)

@@ -10,4 +10,4 @@ mod scheduler;
 pub use barrier::BarrierResult;
 pub use record::Machine;
 pub use register::{LANE_MASK, LINK, PROGRAM_COUNTER};
-pub use scheduler::{Choice, Turn};
+pub use scheduler::{Chosen, Turn};

@@ -8,16 +8,16 @@ use crate::record::Machine;
 use thread_entry::is_running;
 
 // The thread to issue, and its distance from "last", 1 to 8.
-#[derive(Clone, Copy)]
-pub enum Choice {
-    Chosen { thread: usize, distance: usize },
-    NoneRunning,
+#[derive(Clone, Copy, Debug, PartialEq, Eq)]
+pub struct Chosen {
+    pub thread: usize,
+    pub distance: usize,
 }
 
-// A choice, with the record in which the chosen thread is "last".
-#[derive(Clone, Copy)]
+// The choice, if a thread is running, with the record in which the chosen thread is "last".
+#[derive(Clone, Copy, Debug, PartialEq, Eq)]
 pub struct Turn {
-    pub choice: Choice,
+    pub choice: Option<Chosen>,
     pub machine: Machine,
 }
 
@@ -27,11 +27,9 @@ impl Machine {
         ensures { result ≡ mask_of (runs self) thread_numbers }
     {
         let mut mask: u32 = 0;
-        for passed in 0..8 {
-            let status = self.status_at(7 - passed);
-            mask = 2 * mask;
-            if is_running(status) {
-                mask += 1;
+        for (thread, entry) in self.threads.iter().enumerate() {
+            if is_running(entry.status) {
+                mask += 1 << thread;
             }
         }
         mask
@@ -44,7 +42,7 @@ impl Machine {
         let mask = self.running_mask();
         if mask == 0 {
             return Turn {
-                choice: Choice::NoneRunning,
+                choice: None,
                 machine: self,
             };
         }
@@ -54,20 +52,20 @@ impl Machine {
         if (mask >> following) % 2 == 1 {
             self.last = following as u8;
             return Turn {
-                choice: Choice::Chosen {
+                choice: Some(Chosen {
                     thread: following,
                     distance: 1,
-                },
+                }),
                 machine: self,
             };
         }
         // The mask stands here twice, so that its bits go round: bit k is that of the thread at distance k + 1.
         let ahead = (mask * 257) >> (last + 1);
-        let distance = u32::trailing_zeros(ahead) as usize + 1;
+        let distance = ahead.trailing_zeros() as usize + 1;
         let thread = (last + distance) % 8;
         self.last = thread as u8;
         Turn {
-            choice: Choice::Chosen { thread, distance },
+            choice: Some(Chosen { thread, distance }),
             machine: self,
         }
     }

@@ -2,7 +2,8 @@
 use Prim.Native.Nat.{ℕ, zero, suc, ◌<◌}
 use mathlib.Core.Bool.{true, false}
 use mathlib.Core.List.{List, [], ◌∷◌, map}
-use mathlib.Core.Path.{◌≡◌, refl, ap, ◌∙◌}
+use mathlib.Core.Path.{◌≡◌, refl, sym, ap, ◌∙◌}
+use Rattle.std.specs.Prelude.{Bool, cond, Option, Some, None}
 use native.Mathlib.Omega.{arith}
 use borrow.Author.Tests.{eq-eqb, ne_eqb}
 use lib.Dec.{eqb}
@@ -15,7 +16,7 @@ use Rattle.machine.specs.Types.{Running, Waiting, Thread, Machine}
 use Rattle.machine.specs.WellFormed.{waiting, disputed}
 use Rattle.machine.proofs.Kept.{set_same, set_other}
 use Rattle.machine.proofs.Meetings.{other_waits}
-use Rattle.machine.proofs.Threads.{count-one-apart}
+use Rattle.machine.proofs.Threads.{count-one-apart, threads-few}
 use Rattle.machine.proofs.record.Machine.arrive.Goals as goal
 
 map-set : (f : Thread → Thread) (xs : List Thread) (t : ℕ) (x y : Thread) → f x ≡ f y → map f (set xs t x) ≡ map f (set xs t y)
@@ -40,41 +41,43 @@ module _ (m : Machine) (t id count : ℕ) where
       (λ u n. ap (waits_at id) (set_other m t (Waiting id count) u n) ∙ rw (ne_eqb u t n))
       small
 
-pub returns-then-n-eq9 : goal.returns-then-n-eq9
-returns-then-n-eq9 c =
-    let a = c.args in
-    let o = c.others-n in
-    let e : disputed a.self a.thread a.id a.count ≡ true = o.ensures.disputed-is ∙ eq-eqb _ _ c.if-n-eq9.true in
-    rw (e, c.trap.ensures)
+-- what the look at the others says
+agreed : (b : Bool) {n k : ℕ} → ◌≡◌ {A = Option ℕ} (Some n) (cond b None (Some k)) → (b ≡ false) × (n ≡ k)
+agreed true e = (cc, cc)
+agreed false e = (refl, cc)
 
-pub returns-then-n-count : goal.returns-then-n-count
-unfolding release_if_met
-returns-then-n-count c =
+refused : (b : Bool) (k : ℕ) → ◌≡◌ {A = Option ℕ} None (cond b None (Some k)) → b ≡ true
+refused true k e = refl
+refused false k e = cc
+
+pub returns-in_default : goal.returns-in_default
+returns-in_default c =
     let a = c.args in
-    let o = c.others-n in
-    let e : disputed a.self a.thread a.id a.count ≡ false = o.ensures.disputed-is ∙ ne_eqb _ _ c.if-n-eq9.false in
+    rw (refused (disputed a.self a.thread a.id a.count) (others_waiting a.self a.thread a.id) (sym c.in_default.is ∙ c.others.ensures), c.trap.ensures, c.number.ensures)
+
+pub returns-then-n-from : goal.returns-then-n-from
+unfolding release_if_met
+returns-then-n-from c =
+    let a = c.args in
+    let e = agreed (disputed a.self a.thread a.id a.count) c.in-Some.ensures in
     let eight : length a.self.threads ≡ 8 = c.well_formed.0.1.1.1.0.1.0.1 in
     let n = waiting-now a.self a.thread a.id a.count c.requires (omega (arith, eight, c.requires)) in
-    let k = (o.ensures.agreed-are e).0 in
     let met : eqb (waiting (with_status_at a.self a.thread (Waiting a.id a.count)) a.id) a.count ≡ true =
-    eq-eqb (waiting (with_status_at a.self a.thread (Waiting a.id a.count)) a.id) a.count (omega (arith, n, k, c.if-n-count.true)) in
-    rw (e, met, c.release.ensures, c.with_status-running.ensures) (ap (λ x. record { trapped = false; machine = x }) (released-same a.self a.thread a.id a.count))
+    eq-eqb (waiting (with_status_at a.self a.thread (Waiting a.id a.count)) a.id) a.count (omega (arith, n, e.1, c.from.ensures, c.if-n-from.true)) in
+    rw (e.0, met, c.release-machine.ensures, c.with_status.ensures) (ap (λ x. record { trapped = false; machine = x }) (released-same a.self a.thread a.id a.count))
 
-pub returns : goal.returns
+pub returns-else-n-from : goal.returns-else-n-from
 unfolding release_if_met
-returns c =
+returns-else-n-from c =
     let a = c.args in
-    let o = c.others-n in
-    let e : disputed a.self a.thread a.id a.count ≡ false = o.ensures.disputed-is ∙ ne_eqb _ _ c.if-n-eq9.false in
+    let e = agreed (disputed a.self a.thread a.id a.count) c.in-Some.ensures in
     let eight : length a.self.threads ≡ 8 = c.well_formed.0.1.1.1.0.1.0.1 in
     let n = waiting-now a.self a.thread a.id a.count c.requires (omega (arith, eight, c.requires)) in
-    let k = (o.ensures.agreed-are e).0 in
     let met : eqb (waiting (with_status_at a.self a.thread (Waiting a.id a.count)) a.id) a.count ≡ false =
-    ne_eqb (waiting (with_status_at a.self a.thread (Waiting a.id a.count)) a.id) a.count (λ f. c.if-n-count.false (omega (arith, n, k, f))) in
-    rw (e, met, c.with_status.ensures)
+    ne_eqb (waiting (with_status_at a.self a.thread (Waiting a.id a.count)) a.id) a.count (λ f. c.if-n-from.false (omega (arith, n, e.1, c.from.ensures, f))) in
+    rw (e.0, met, c.with_status-machine.ensures)
 
 pub overflow_add-n : goal.overflow_add-n
 overflow_add-n c =
-    let o = c.others-n in
-    let e = o.ensures.disputed-is ∙ ne_eqb _ _ c.if-n-eq9.false in
-    omega (arith, (o.ensures.agreed-are e).1)
+    let a = c.args in
+    omega (arith, (agreed (disputed a.self a.thread a.id a.count) c.in-Some.ensures).1, threads-few (other_waits a.self a.thread a.id))

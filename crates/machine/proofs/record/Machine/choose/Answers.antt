@@ -2,23 +2,24 @@
 use Prim.Native.Nat.{ℕ, ◌+◌, ◌*◌, ◌/◌, ◌%◌, ◌^◌, ◌<◌, ◌≤◌}
 use mathlib.Core.Path.{◌≡◌, refl, sym, ap, ◌∙◌}
 use native.Mathlib.Omega.{arith}
+use Rattle.std.specs.Prelude.{Option, None}
 use lib.Count.{count_trailing_zeros}
-use Rattle.machine.specs.Scheduler.{after, choice, with_last, after_choice, choose}
-use Rattle.machine.specs.Types.{Machine, Choice, Chosen, NoneRunning}
+use Rattle.machine.specs.Scheduler.{after, chosen, choice, with_last, after_choice, choose}
+use Rattle.machine.specs.Types.{Machine, Chosen}
 use Rattle.machine.proofs.Choosing.{mask, mask-small, zeros, nothing-set, one_set, following}
 use Rattle.machine.proofs.record.Machine.choose.Goals as goal
 
 -- a turn by its choice
-turn : (m : Machine) (c : Choice) → choice m ≡ c → record { choice = c; machine = after_choice m c } ≡ choose m
+turn : (m : Machine) (c : Option Chosen) → choice m ≡ c → record { choice = c; machine = after_choice m c } ≡ choose m
 unfolding choose
-turn m c e = ap (λ (x : Choice). record { choice = x; machine = after_choice m x }) (sym e)
+turn m c e = ap (λ (x : Option Chosen). record { choice = x; machine = after_choice m x }) (sym e)
 
 -- what the code computes of the mask r of the running threads
 record Computed (m : Machine) (r : ℕ) : Type 0 where
   small : r ≤ 255
-  next : r / 2 ^ ((m.last % 8 + 1) % 8) % 2 ≡ 1 → choice m ≡ Chosen ((m.last % 8 + 1) % 8) 1
+  following-is : r / 2 ^ ((m.last % 8 + 1) % 8) % 2 ≡ 1 → choice m ≡ chosen ((m.last % 8 + 1) % 8) 1
   near : count_trailing_zeros 32 (r * 257 / 2 ^ (m.last % 8 + 1)) < 8
-  chosen : choice m ≡ Chosen (after m (count_trailing_zeros 32 (r * 257 / 2 ^ (m.last % 8 + 1)) + 1)) (count_trailing_zeros 32 (r * 257 / 2 ^ (m.last % 8 + 1)) + 1)
+  lowest-is : choice m ≡ chosen (after m (count_trailing_zeros 32 (r * 257 / 2 ^ (m.last % 8 + 1)) + 1)) (count_trailing_zeros 32 (r * 257 / 2 ^ (m.last % 8 + 1)) + 1)
 
 computed : (m : Machine) (r : ℕ) → r ≡ mask m → (r ≡ 0 → ⊥) → Computed m r
 unfolding zeros
@@ -26,19 +27,19 @@ computed m r e h =
     let f = one_set m (λ z. h (e ∙ z)) in
     record {
       small = omega (arith, mask-small m);
-      next = rw e (following m ((m.last % 8 + 1) % 8) refl);
+      following-is = rw e (following m ((m.last % 8 + 1) % 8) refl);
       near = rw e f.0;
-      chosen = rw e f.1;
+      lowest-is = rw e f.1;
     }
 
 pub returns-then-mask-eq0 : goal.returns-then-mask-eq0
 returns-then-mask-eq0 c =
     let m = c.args.self in
-    turn m NoneRunning (nothing-set m (sym c.running_mask-mask.ensures ∙ c.if-mask-eq0.true))
+    turn m None (nothing-set m (sym c.running_mask-mask.ensures ∙ c.if-mask-eq0.true))
 
 -- the next thread is running
 pub returns-then-mask-following-eq1 : goal.returns-then-mask-following-eq1
-returns-then-mask-following-eq1 c = turn c.args.self _ ((computed c.args.self c.running_mask-mask.result c.running_mask-mask.ensures c.if-mask-eq0.false).next c.if-mask-following-eq1.true)
+returns-then-mask-following-eq1 c = turn c.args.self _ ((computed c.args.self c.running_mask-mask.result c.running_mask-mask.ensures c.if-mask-eq0.false).following-is c.if-mask-following-eq1.true)
 
 pub returns : goal.returns
 returns c =
@@ -46,7 +47,7 @@ returns c =
     let k = computed c.args.self c.running_mask-mask.result c.running_mask-mask.ensures c.if-mask-eq0.false in
     let d = count_trailing_zeros 32 (c.running_mask-mask.result * 257 / 2 ^ (m.last % 8 + 1)) + 1 in
     let e : (m.last % 8 + d) % 8 ≡ after m d = omega arith in
-    ap (λ (t : ℕ). record { choice = Chosen t d; machine = with_last m t }) e ∙ turn m (Chosen (after m d) d) k.chosen
+    ap (λ (t : ℕ). record { choice = chosen t d; machine = with_last m t }) e ∙ turn m (chosen (after m d) d) k.lowest-is
 
 pub overflow_mul-ahead : goal.overflow_mul-ahead
 overflow_mul-ahead c = let k = computed c.args.self c.running_mask-mask.result c.running_mask-mask.ensures c.if-mask-eq0.false in omega arith

@@ -1,39 +1,42 @@
 -- `others` meets its contract.
-use Prim.Native.Nat.{ℕ, ◌+◌, ◌<◌, ◌≤◌}
-use mathlib.Core.Bool.{Bool, true, false, not, ◌&&◌}
-use mathlib.Core.Path.{◌≡◌, refl, sym, ap, ◌∙◌}
-use native.Mathlib.Omega.{arith}
-use borrow.Author.Tests.{ne_eqb}
+use Rattle.std.proofs.Common.{◌≡◌, ◌≢◌, ℕ, ◌<◌, ◌+◌, Bool, true, false, not, ◌&&◌, refl, sym, ap, ◌∙◌, Some}
+use borrow.Author.Tests.{eq-eqb, ne_eqb}
 use lib.Dec.{eqb}
 use Rattle.machine.specs.Machine.{status_at}
-use Rattle.thread_entry.specs.Status.{is_waiting}
 use Rattle.machine.specs.Types.{Machine}
+use Rattle.machine.specs.WellFormed.{disputed}
+use Rattle.thread_entry.specs.Status.{waits_at}
 use Rattle.machine.proofs.Loops.{Searching, search-start, search-found, search-on, search-done, Counting, count-start, count-one, count-on, count-done}
 use Rattle.machine.proofs.Meetings.{other_waits, disputes, waits-nowhere, skips}
-use Rattle.machine.proofs.Tests.{never}
 use Rattle.machine.proofs.record.Machine.others.Goals as goal
-use Rattle.machine.proofs.record.Machine.others.Goals.{then-is_waiting+then-t-thread+else-waits_otherwise, then-is_waiting+else-t-thread, else-is_waiting}
+use Rattle.machine.proofs.record.Machine.others.Goals.{then-is_waiting+then-t-thread+then-waits_at+else-waits_otherwise, else-is_waiting, else-is_waiting-via-then-is_waiting+then-t-thread+else-waits_at, else-is_waiting-via-then-is_waiting+else-t-thread, else-is_waiting-via-else-is_waiting}
 
-no_both : (a : Bool) → (a && false) ≡ false
-no_both true = refl
-no_both false = refl
+module _ (m : Machine) (thread id count t : ℕ) where
+  -- another than the thread, of whose status a test then decides
+  other : t ≢ thread → {a b : Bool} → a ≡ b → (not (eqb t thread) && a) ≡ b
+  other n h = rw (ne_eqb t thread n) h
 
--- another than the thread, of whose status a test then decides
-decided : (a b d : Bool) → (not a && b) ≡ true → (not a && d) ≡ d
-decided true b d h = never h refl
-decided false b d h = refl
+  -- the thread itself, or one that does not wait there
+  itself : t ≡ thread → other_waits m thread id t ≡ false
+  itself e = rw (eq-eqb t thread e)
+
+  elsewhere : waits_at id (status_at m t) ≡ false → other_waits m thread id t ≡ false
+  elsewhere h = ap (λ b. not (eqb t thread) && b) h ∙ go (not (eqb t thread))
+    where
+      go : (a : Bool) → (a && false) ≡ false
+      go true = refl
+      go false = refl
+
+  -- a thread that is not counted
+  passed : {n r : ℕ} → Searching (disputes m thread id count) t × Counting (other_waits m thread id) t n → t < 8 → r ≡ n
+      → other_waits m thread id t ≡ false → Searching (disputes m thread id count) (t + 1) × Counting (other_waits m thread id) (t + 1) r
+  passed inv more e h =
+      (search-on (disputes m thread id count) t inv.0 more (skips m thread id count t h), count-on (other_waits m thread id) t inv.1 more h e)
 
 pub loop-t-init : goal.loop-t-init
 loop-t-init c =
     let a = c.args in
-    (omega arith, search-start (disputes a.self a.thread a.id a.count), count-start (other_waits a.self a.thread a.id))
-
--- a thread that is not counted
-passed : (m : Machine) (thread id count t n : ℕ) → (t ≤ 8) × Searching (disputes m thread id count) t × Counting (other_waits m thread id) t n → t < 8
-    → other_waits m thread id t ≡ false → {r : ℕ} → r ≡ n
-    → (t + 1 ≤ 8) × Searching (disputes m thread id count) (t + 1) × Counting (other_waits m thread id) (t + 1) r
-passed m thread id count t n inv more h e =
-    (omega arith, search-on (disputes m thread id count) t inv.1 more (skips m thread id count t h), count-on (other_waits m thread id) t inv.2 more h e)
+    (search-start (disputes a.self a.thread a.id a.count), count-start (other_waits a.self a.thread a.id))
 
 pub loop-t-preserved : goal.loop-t-preserved
 loop-t-preserved c =
@@ -42,39 +45,37 @@ loop-t-preserved c =
     let more = c.loop-t-test.true in
     let d = disputes a.self a.thread a.id a.count in
     let w = other_waits a.self a.thread a.id in
-    let other = not (eqb l.t a.thread) in
-    let status = c.status_at-status.ensures in
     elim c.if-is_waiting.branch [
-      | then-is_waiting+then-t-thread+else-waits_otherwise x ↦
-          let k : w l.t ≡ true = rw (← status, ← x.waits_at.ensures) x.if-t-thread.true in
-          let h : d l.t ≡ false = decided (eqb l.t a.thread) _ _ k ∙ rw (← status, ← x.waits_otherwise.ensures) x.if-waits_otherwise.false in
-          (omega arith, search-on d l.t l.invariant.1 more h, count-one w l.t l.invariant.2 more k x.n-is)
-      | then-is_waiting+else-t-thread x ↦
-          passed a.self a.thread a.id a.count l.t l.n l.invariant more (rw (← status, ← x.waits_at.ensures) x.if-t-thread.false) x.n-is
+      | then-is_waiting+then-t-thread+then-waits_at+else-waits_otherwise x ↦
+          let n = x.if-t-thread.true in
+          let k : w l.t ≡ true = other a.self a.thread a.id a.count l.t n (sym x.waits_at.ensures ∙ x.if-waits_at.true) in
+          let h : d l.t ≡ false = other a.self a.thread a.id a.count l.t n (sym x.waits_otherwise.ensures ∙ x.if-waits_otherwise.false) in
+          (search-on d l.t l.invariant.0 more h, count-one w l.t l.invariant.1 more k x.n-is)
       | else-is_waiting x ↦
-          let f : is_waiting (status_at a.self l.t) ≡ false = rw (← status, ← c.is_waiting.ensures) x.if-is_waiting.false in
-          passed a.self a.thread a.id a.count l.t l.n l.invariant more
-          (ap (λ b. other && b) (waits-nowhere a.id (status_at a.self l.t) f) ∙ no_both other) x.n-is
+          passed a.self a.thread a.id a.count l.t l.invariant more x.n-is
+          (elim x.else-is_waiting.branch [
+            | else-is_waiting-via-then-is_waiting+then-t-thread+else-waits_at y ↦
+                elsewhere a.self a.thread a.id a.count l.t (sym y.waits_at.ensures ∙ y.if-waits_at.false)
+            | else-is_waiting-via-then-is_waiting+else-t-thread y ↦ itself a.self a.thread a.id a.count l.t y.if-t-thread.false
+            | else-is_waiting-via-else-is_waiting y ↦
+                elsewhere a.self a.thread a.id a.count l.t
+                (waits-nowhere a.id (status_at a.self l.t) (sym c.is_waiting.ensures ∙ y.if-is_waiting.false))
+          ])
     ]
 
 pub returns-then-waits_otherwise : goal.returns-then-waits_otherwise
 returns-then-waits_otherwise c =
     let l = c.loop-t in
     let a = c.args in
-    let more = c.loop-t-test.true in
     let d = disputes a.self a.thread a.id a.count in
-    let w = other_waits a.self a.thread a.id in
-    let status = c.status_at-status.ensures in
-    let k : w l.t ≡ true = rw (← status, ← c.waits_at.ensures) c.if-t-thread.true in
-    let h : d l.t ≡ true = decided (eqb l.t a.thread) _ _ k ∙ rw (← status, ← c.waits_otherwise.ensures) c.if-waits_otherwise.true in
-    let found = search-found d l.t l.invariant.1 more h in
-    record { disputed-is = found; agreed-are = λ e. never found e }
+    let h : d l.t ≡ true = other a.self a.thread a.id a.count l.t c.if-t-thread.true (sym c.waits_otherwise.ensures ∙ c.if-waits_otherwise.true) in
+    let e : disputed a.self a.thread a.id a.count ≡ true = search-found d l.t l.invariant.0 c.loop-t-test.true h in
+    rw e
 
 pub returns : goal.returns
 returns c =
     let l = c.loop-t in
     let a = c.args in
-    let none = search-done (disputes a.self a.thread a.id a.count) l.t l.invariant.1 c.loop-t-test.false in
-    let sum = count-done (other_waits a.self a.thread a.id) l.t l.invariant.2 c.loop-t-test.false in
-    let few : l.n ≤ 8 = omega (arith, l.invariant.0, l.invariant.2.few) in
-    record { disputed-is = none ∙ sym (ne_eqb l.n 9 (λ e. omega (arith, e, few))); agreed-are = λ e. (sym sum, few) }
+    let e : disputed a.self a.thread a.id a.count ≡ false =
+    search-done (disputes a.self a.thread a.id a.count) l.t l.invariant.0 c.loop-t-test.false in
+    rw e (ap Some (sym (count-done (other_waits a.self a.thread a.id) l.t l.invariant.1 c.loop-t-test.false)))

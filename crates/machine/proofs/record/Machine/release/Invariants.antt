@@ -1,17 +1,7 @@
 -- `release` meets its contract.
-use Prim.Native.Nat.{ℕ, ◌-◌, ◌≤◌}
-use mathlib.Core.Path.{◌≡◌}
-use Rattle.machine.specs.Barrier.{released}
-use Rattle.machine.specs.Machine.{status_at}
-use Rattle.machine.specs.Types.{Status, Machine}
-use Rattle.machine.proofs.Loops.{changed_to, restating}
+use Rattle.std.proofs.Common.{◌≡◌, ◌++◌, map, take, drop}
+use Rattle.machine.proofs.Meetings.{freed}
 use Rattle.machine.proofs.record.Machine.release.Given as goal
 
-abbrev next : Machine → ℕ → ℕ → Status
-next m id t = released id (status_at m t)
-
-abbrev pub invariant-loop-t : goal.invariant-loop-t
-invariant-loop-t l = (l.t ≤ 8) × (l.self ≡ changed_to (restating (next l.initial.self l.id)) l.initial.self l.t)
-
-abbrev pub decreases-loop-t : goal.decreases-loop-t
-decreases-loop-t l = 8 - l.t
+abbrev pub invariant-loop-entry : goal.invariant-loop-entry
+invariant-loop-entry l = l.entry-items ≡ map (freed l.id) (take l.entry-index l.fn.self.threads) ++ drop l.entry-index l.fn.self.threads

@@ -1,52 +1,51 @@
 -- `running_mask` meets its contract.
-use Prim.Native.Nat.{ℕ, suc, ◌+◌, ◌-◌, ◌*◌, ◌^◌, ◌<◌, ◌≤◌}
-use mathlib.Core.Bool.{Bool, true, false, cond}
-use mathlib.Core.Path.{◌≡◌, refl, ap, ◌∙◌}
-use native.Mathlib.Numerals.{add-one}
+use Rattle.std.proofs.Common.{◌≡◌, ℕ, ◌^◌, ◌<◌, ◌≤◌, ◌+◌, refl, sym, ap, ◌∙◌, arith, add-one, cond, Bool, true, false}
 use native.Mathlib.Omega.{arith}
 use lib.Pow.{pow_mono}
 use Rattle.machine.specs.Scheduler.{runs}
 use Rattle.machine.specs.Search.{mask_of}
 use Rattle.machine.proofs.Loops.{from}
-use Rattle.machine.proofs.Nearest.{mask_of-lt}
-use Rattle.machine.proofs.record.Machine.running_mask.Invariants.{Masked}
-use Rattle.machine.proofs.record.Machine.running_mask.Goals.{then-is_running, else-is_running}
+use Rattle.machine.proofs.Nearest.{mask_of-lt, mask_of-more}
 use Rattle.machine.proofs.record.Machine.running_mask.Goals as goal
+use Rattle.machine.proofs.record.Machine.running_mask.Goals.{then-is_running, else-is_running}
 
-plus-bit : (b : Bool) (n : ℕ) → cond b (n + 1) n ≡ n + cond b 1 0
-plus-bit true n = refl
-plus-bit false n = omega arith
+-- one thread more: its bit is added where it is set
+one_more : (p : ℕ → Bool) (t mask : ℕ) → mask ≡ mask_of p (from 0 t) → (b : Bool) → p t ≡ b → {r : ℕ} → r ≡ mask + cond b (2 ^ t) 0
+    → r ≡ mask_of p (from 0 (t + 1))
+one_more p t mask k b h e =
+    let f : 0 + t ≡ t = omega arith in
+    let g = mask_of-more p 0 t in
+    rw (add-one, g, f, h, ← k) e
 
--- one thread more: the mask doubles, and has the thread's bit
-one_more : (p : ℕ → Bool) (j : ℕ) {mask r : ℕ} (b : Bool) → Masked p j mask → j < 8 → p (7 - j) ≡ b → r ≡ cond b (2 * mask + 1) (2 * mask) → Masked p (j + 1) r
+-- there is room for it
+room : (p : ℕ → Bool) (t mask : ℕ) → mask ≡ mask_of p (from 0 t) → t < 8 → (mask ≤ 127) × (2 ^ t ≤ 128)
+room p t mask k l =
+    let seven : 2 ^ t ≤ 128 = pow_mono {j = 7} (omega arith) in
+    (omega (arith, mask_of-lt p 0 t), seven)
+
+pub loop-thread-init : goal.loop-thread-init
 unfolding mask_of from
-one_more p j {mask} {r} b k l h e =
-    let d : 8 - (j + 1) ≡ 7 - j = omega arith in
-    let f : 8 - j ≡ suc (7 - j) = omega arith in
-    let g : mask_of p (from (8 - (j + 1)) (j + 1)) ≡ cond b 1 0 + 2 * mask_of p (from (8 - j) j) = rw (d, f, add-one, h) in
-    let small = mask_of-lt p (8 - (j + 1)) (j + 1) in
-    let eight : 2 ^ (j + 1) ≤ 256 = pow_mono {j = 8} (omega arith) in
-    let sum = plus-bit b (2 * mask) in
-    record { few = omega arith; small = omega arith; same = omega arith }
+loop-thread-init c = refl
 
-pub loop-passed-init : goal.loop-passed-init
-unfolding mask_of from
-loop-passed-init c = record { few = omega arith; small = omega arith; same = refl }
-
-pub loop-passed-preserved : goal.loop-passed-preserved
-loop-passed-preserved c =
-    let l = c.loop-passed in
+pub loop-thread-preserved : goal.loop-thread-preserved
+loop-thread-preserved c =
+    let l = c.loop-thread in
     let m = c.args.self in
-    let left = c.loop-passed-test.true in
-    let e : runs m (7 - l.passed) ≡ c.is_running.result = rw (← c.status_at-status.ensures, ← c.is_running.ensures) in
+    let r = room (runs m) l.thread l.mask l.invariant c.loop-thread-test.true in
     elim c.if-is_running.branch [
-      | then-is_running w ↦ one_more (runs m) l.passed true l.invariant left (e ∙ w.if-is_running.true) w.mask-is
-      | else-is_running w ↦ one_more (runs m) l.passed false l.invariant left (e ∙ w.if-is_running.false) w.mask-is
+      | then-is_running w ↦
+          one_more (runs m) l.thread l.mask l.invariant true (sym c.is_running.ensures ∙ w.if-is_running.true) (w.mask-is ∙ omega arith)
+      | else-is_running w ↦
+          one_more (runs m) l.thread l.mask l.invariant false (sym c.is_running.ensures ∙ w.if-is_running.false) (w.mask-is ∙ omega arith)
     ]
+
+pub overflow_add-mask : goal.overflow_add-mask
+overflow_add-mask c =
+    let r = room (runs c.args.self) c.loop-thread.thread c.loop-thread.mask c.loop-thread.invariant c.loop-thread-test.true in
+    omega arith
 
 pub returns : goal.returns
 unfolding from
 returns c =
-    let l = c.loop-passed in
-    let e : l.passed ≡ 8 = omega arith in
-    l.invariant.same ∙ ap (λ n. mask_of (runs c.args.self) (from (8 - n) n)) e
+    let e : c.loop-thread.thread ≡ 8 = omega arith in
+    c.loop-thread.invariant ∙ ap (λ n. mask_of (runs c.args.self) (from 0 n)) e
