@@ -1,5 +1,5 @@
 -- Arrays that a loop fills place by place: the law of every such loop, and of `tab`.
-use mathlib.Core.Path.{◌≡◌, refl, sym, ◌∙◌}
+use mathlib.Core.Path.{◌≡◌, refl, sym, ◌∙◌, subst}
 use mathlib.Core.List.{List, [], ◌∷◌, ◌++◌}
 use Prim.Native.Nat.{ℕ, zero, suc, ◌+◌, ◌≤◌, ◌<◌}
 use native.Mathlib.Numerals.{add-one}
@@ -10,6 +10,9 @@ use lib.Seq.{take-suc-set, take_all, get_or_at}
 use mathlib.Core.Bool.{Bool, true, false}
 use lib.Dec.{ltb}
 use borrow.Author.Tests.{ltb-true, ltb-false}
+use denote.Param.Members.{Mut, Called}
+use Rattle.std.proofs.lemmas.List.{ext_get_or}
+use Rattle.std.specs.Array.{IsFromFnResult, IsFromFnResultFrom}
 use Rattle.vector.specs.Lanes.{tab, binary_lanes, unary_lanes, shuffled, blended, splatted}
 use Rattle.vector.specs.Claims.{TabLength, TabLane, SixteenLanes}
 
@@ -40,6 +43,25 @@ sixteen-lanes = record {
   of-blend = λ mask new old. tab-length 16 _;
   of-splat = λ x. tab-length 16 _;
 }
+
+-- a list that holds what is given for each place
+pub tab-of : (n : ℕ) (f : ℕ → ℕ) (r : List ℕ) → length r ≡ n → ((j : ℕ) → j < n → get_or r j 0 ≡ f j) → r ≡ tab n f
+tab-of n f r e h = ext_get_or 0 r (tab n f) (e ∙ sym (tab-length n f)) (λ j l. h j (omega arith) ∙ sym (tab-lane n j f (omega arith)))
+
+-- what `array::from_fn` makes, of a closure that answers f j at j, and that a call leaves as it is
+module _ {F : Type 0} (g : Mut F (ℕ × Unit {0}) ℕ) (c : F) (n : ℕ) (f : ℕ → ℕ) (h : (j x : ℕ) (d : F) → j < n → Called g c (j, tt) x d → (x ≡ f j) × (d ≡ c)) where
+  held : (r : List ℕ) (d : F) (i k : ℕ) → d ≡ c → i + k ≤ n → IsFromFnResultFrom g d r i k → (j : ℕ) → i ≤ j → j < i + k → get_or r j 0 ≡ f j
+  held r d i zero e l t j p q = absurd (omega arith)
+  held r d i (suc k) e l t j p q =
+      let one = h i t.1 t.0 (omega arith) (subst (λ (b : F). Called g b (i, tt) t.1 t.0) e t.3) in
+      go (ltb i j) refl (λ w. held r t.0 (i + 1) k one.1 (omega arith) t.4 j w (omega arith)) (t.2.1 0 ∙ one.0)
+    where
+      go : (u : Bool) → ltb i j ≡ u → (i + 1 ≤ j → get_or r j 0 ≡ f j) → get_or r i 0 ≡ f i → get_or r j 0 ≡ f j
+      go true m later here = let w : i < j = ltb-true i j m in later (omega arith)
+      go false m later here = let w : j ≡ i = omega (arith, ltb-false i j m) in rw w here
+
+  pub filled : {r : List ℕ} → IsFromFnResult g c r n → r ≡ tab n f
+  filled {r} t = tab-of n f r t.long (λ j l. held r c 0 n refl (omega arith) t.each j (omega arith) (omega arith))
 
 -- the first j of the n places of r hold f 0, .., f (j - 1)
 pub record Filling (n : ℕ) (f : ℕ → ℕ) (r : List ℕ) (j : ℕ) : Type 0 where

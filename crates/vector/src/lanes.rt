@@ -1,53 +1,40 @@
 // Sixteen lanes: the operations lane by lane, shuffle and blend.
-ghost use Rattle.std.specs.Prelude.{◌≡◌, cond, ◌%◌, ◌<◌, set};
+ghost use Rattle.std.specs.Prelude.{◌≡◌};
 ghost use Rattle.alu.specs.Binary.{integer, arithmetic};
 ghost use Rattle.alu.specs.Unary.{integer_unary, conversion};
 ghost use Rattle.vector.specs.Lanes.{tab, lane, is_on, binary_lanes, unary_lanes, shuffled, blended};
 
 use alu::{arithmetic, conversion, integer, integer_unary};
 use isa::{BinaryOp, UnaryOp};
+use std::array;
 
+// The loop over the lanes is the library's: the compiler makes vector instructions of it where the operation is known.
 pub fn each_integer(op: BinaryOp, x: [u32; 16], y: [u32; 16]) -> [u32; 16]
     ensures { result ≡ tab 16 (λ j. integer op (lane x j) (lane y j)) }
 {
-    let mut v = [0u32; 16];
-    for j in 0..16usize {
-        v[j] = integer(op, x[j], y[j]);
-    }
-    v
+    array::from_fn(|j| integer(op, x[j], y[j]))
 }
 
 fn each_float(op: BinaryOp, x: [u32; 16], y: [u32; 16]) -> [u32; 16]
     ensures { result ≡ tab 16 (λ j. arithmetic op (lane x j) (lane y j)) }
 {
-    let mut v = [0u32; 16];
-    for j in 0..16usize {
-        v[j] = arithmetic(op, x[j], y[j]);
-    }
-    v
+    array::from_fn(|j| arithmetic(op, x[j], y[j]))
 }
 
 fn each_integer_unary(op: UnaryOp, x: [u32; 16]) -> [u32; 16]
     ensures { result ≡ tab 16 (λ j. integer_unary op (lane x j)) }
 {
-    let mut v = [0u32; 16];
-    for j in 0..16usize {
-        v[j] = integer_unary(op, x[j]);
-    }
-    v
+    array::from_fn(|j| integer_unary(op, x[j]))
 }
 
 fn each_conversion(op: UnaryOp, x: [u32; 16]) -> [u32; 16]
     ensures { result ≡ tab 16 (λ j. conversion op (lane x j)) }
 {
-    let mut v = [0u32; 16];
-    for j in 0..16usize {
-        v[j] = conversion(op, x[j]);
-    }
-    v
+    array::from_fn(|j| conversion(op, x[j]))
 }
 
 // The match stands outside the lane loop: with the operation known, the compiler makes vector instructions of the loop.
+#[tactic(auto, unfolding(crate::specs::Lanes::binary_lanes))]
 fn binary_lanes(op: BinaryOp, x: [u32; 16], y: [u32; 16]) -> [u32; 16]
     ensures { result ≡ binary_lanes op x y }
 {
@@ -70,6 +57,7 @@ fn binary_lanes(op: BinaryOp, x: [u32; 16], y: [u32; 16]) -> [u32; 16]
     }
 }
 
+#[tactic(auto, unfolding(crate::specs::Lanes::unary_lanes))]
 fn unary_lanes(op: UnaryOp, x: [u32; 16]) -> [u32; 16]
     ensures { result ≡ unary_lanes op x }
 {
@@ -84,48 +72,23 @@ fn unary_lanes(op: UnaryOp, x: [u32; 16]) -> [u32; 16]
     }
 }
 
-// Lane j is read from x, and not from what is written.
-fn shuffle_lane(v: &mut [u32; 16], x: &[u32; 16], y: &[u32; 16], j: usize)
-    requires { j < 16 }
-    ensures { v.new ≡ set v.old j (lane x.now (lane y.now j % 16)) }
-{
-    v[j] = x[(y[j] % 16) as usize];
-}
-
 pub fn shuffle(x: [u32; 16], y: [u32; 16]) -> [u32; 16]
     ensures { result ≡ shuffled x y }
 {
-    let mut v = [0u32; 16];
-    for j in 0..16usize {
-        shuffle_lane(&mut v, &x, &y, j);
-    }
-    v
+    array::from_fn(|j| x[(y[j] % 16) as usize])
 }
 
 // Whether a lane is on in a lane mask.
 pub fn is_on(mask: u32, j: usize) -> bool
     ensures { result ≡ is_on mask j }
 {
-    if j < 32 {
-        return (mask >> j) % 2 == 1;
-    }
-    false
-}
-
-fn choose(on: bool, new: u32, old: u32) -> u32
-    ensures { result ≡ cond on new old }
-{
-    if on { new } else { old }
+    j < 32 && (mask >> j) % 2 == 1
 }
 
 pub fn blend(mask: u32, new: [u32; 16], old: [u32; 16]) -> [u32; 16]
     ensures { result ≡ blended mask new old }
 {
-    let mut v = [0u32; 16];
-    for j in 0..16usize {
-        v[j] = choose(is_on(mask, j), new[j], old[j]);
-    }
-    v
+    array::from_fn(|j| if is_on(mask, j) { new[j] } else { old[j] })
 }
 
 // An operation and the blend of its result in one: the compiler then has all of it in vector registers.

@@ -1,14 +1,7 @@
 -- `lanes::each_conversion` meets its contract: lane j is filled by one operation.
-use mathlib.Core.Path.{refl}
 use borrow.Author.Rules.{rules}
-use Rattle.vector.proofs.Filling.{start, more, whole}
+use Rattle.vector.proofs.Filling.{filled}
 use Rattle.vector.proofs.lanes.each_conversion.Goals as goal
 
-pub loop-j-preserved : goal.loop-j-preserved
-loop-j-preserved c = more c.loop-j.invariant (search rules) c.conversion.ensures
-
 pub returns : goal.returns
-returns c = whole c.loop-j.invariant (search rules)
-
-pub loop-j-init : goal.loop-j-init
-loop-j-init c = start _ _ refl
+returns c = filled _ _ _ _ (λ j x d l k. search rules) c.from_fn.ensures.items
