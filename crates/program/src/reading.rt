@@ -13,8 +13,7 @@ pub const INPUT_BYTES: usize = 4 * PROGRAM_WORDS + 1;
 pub fn bad_bytes(bytes: usize) -> bool
     ensures { result ≡ bad_bytes bytes }
 {
-    let no_program = answer::bad_program(bytes / 4);
-    (bytes % 4 != 0) | no_program
+    bytes % 4 != 0 || answer::bad_program(bytes / 4)
 }
 
 // The first words of an input, stored from the start on.
@@ -22,20 +21,17 @@ fn take_words(input: &[u8], count: usize, program: &mut [u32]) -> usize
     requires { (4 * count ≤ length input.now) × (count ≤ length program.old) }
     ensures { wrote result program.new ≡ writes program.old 0 (words_of count input.now) }
 {
-    let mut k = 0;
-    while k < count {
-        program[k] = little_endian::word_at(input, 4 * k);
-        k += 1;
+    for (k, word) in program[..count].iter_mut().enumerate() {
+        *word = little_endian::word_at(input, 4 * k);
     }
-    k
+    count
 }
 
 // Puts the words of a program's bytes at the start of the buffer, and answers their number; 0 where the bytes are no program.
 pub fn words(input: &[u8], program: &mut [u32; PROGRAM_WORDS]) -> usize
     ensures { wrote result program.new ≡ loads input.now program.old }
 {
-    let refused = bad_bytes(input.len());
-    if refused {
+    if bad_bytes(input.len()) {
         return 0;
     }
     take_words(input, input.len() / 4, program)
