@@ -1,6 +1,7 @@
 -- A program in bytes: number 1, and the words (document 01, "Numbers given back", and "Figures to check", Lister).
-use Rattle.std.specs.Prelude.{ℕ, ◌/◌, ◌%◌, Bool, ◌||◌, not, cond, List, eqb, length}
+use Rattle.std.specs.Prelude.{ℕ, ◌/◌, ◌%◌, Bool, ◌||◌, not, cond, List, eqb, length, Result, Ok, Err}
 use Rattle.answer.specs.Refusal.{bad_program}
+use Rattle.answer.specs.declared.refusal.Refusal.{Refusal}
 use Rattle.little_endian.specs.Numbers.{words_of, bytes_of}
 use Rattle.text.specs.Buffer.{Wrote, wrote, writes}
 
@@ -11,6 +12,11 @@ bad_bytes bytes = not (eqb (bytes % 4) 0) || bad_program (bytes / 4)
 -- "words little endian"
 abbrev pub program_in : List ℕ → List ℕ
 program_in input = words_of (length input / 4) input
+
+-- what both calls answer, as the code says it: how many were put, none of what is no program
+abbrev pub count_of : Result ℕ Refusal → ℕ
+count_of (Ok count) = count
+count_of (Err _) = 0
 
 -- what the reader of a program's bytes leaves: the number of words, and them at the start of the buffer; none of a bad input
 unfoldable pub loads : List ℕ → List ℕ → Wrote

@@ -1,10 +1,10 @@
 // The words of a program's bytes.
-ghost use Rattle.std.specs.Prelude.{◌≡◌, ◌*◌, ◌≤◌, length};
+ghost use Rattle.std.specs.Prelude.{◌≡◌, ◌*◌, ◌≤◌, ◌↔◌, length, IsErrOf, IsTrue};
 ghost use Rattle.little_endian.specs.Numbers.{words_of};
 ghost use Rattle.text.specs.Buffer.{wrote, writes};
-ghost use Rattle.program.specs.Program.{bad_bytes, loads};
+ghost use Rattle.program.specs.Program.{bad_bytes, count_of, loads};
 
-use answer::PROGRAM_WORDS;
+use answer::{PROGRAM_WORDS, Refusal};
 
 // Room for a program's bytes: one more than the longest has, so that a longer input is seen.
 pub const INPUT_BYTES: usize = 4 * PROGRAM_WORDS + 1;
@@ -27,12 +27,14 @@ fn take_words(input: &[u8], count: usize, program: &mut [u32]) -> usize
     count
 }
 
-// Puts the words of a program's bytes at the start of the buffer, and answers their number; 0 where the bytes are no program.
-pub fn words(input: &[u8], program: &mut [u32; PROGRAM_WORDS]) -> usize
-    ensures { wrote result program.new ≡ loads input.now program.old }
+// Puts the words of a program's bytes at the start of the buffer, and answers their number. Bytes that are no program change nothing.
+#[tactic(auto, unfolding(crate::specs::Program::loads))]
+pub fn words(input: &[u8], program: &mut [u32; PROGRAM_WORDS]) -> Result<usize, Refusal>
+    ensures written { wrote (count_of result) program.new ≡ loads input.now program.old }
+    ensures refused { IsErrOf result Refusal.Program ↔ IsTrue (bad_bytes (length input.now)) }
 {
     if bad_bytes(input.len()) {
-        return 0;
+        return Err(Refusal::Program);
     }
-    take_words(input, input.len() / 4, program)
+    Ok(take_words(input, input.len() / 4, program))
 }

@@ -1,10 +1,11 @@
 // The bytes of a program's words.
-ghost use Rattle.std.specs.Prelude.{◌≡◌, ◌*◌, ◌≤◌, length};
+ghost use Rattle.std.specs.Prelude.{◌≡◌, ◌*◌, ◌≤◌, ◌↔◌, length, IsErrOf, IsTrue};
 ghost use Rattle.little_endian.specs.Numbers.{bytes_of};
 ghost use Rattle.text.specs.Buffer.{wrote, writes};
-ghost use Rattle.program.specs.Program.{saves};
+ghost use Rattle.answer.specs.Refusal.{bad_program};
+ghost use Rattle.program.specs.Program.{count_of, saves};
 
-use answer::PROGRAM_WORDS;
+use answer::{PROGRAM_WORDS, Refusal};
 use text::put_text;
 
 // The bytes of the longest program.
@@ -22,12 +23,14 @@ fn put_words(words: &[u32], out: &mut [u8]) -> usize
     at
 }
 
-// Puts the bytes of a program's words at the start of the buffer, and answers their number; 0 where the words are no program.
-pub fn bytes(words: &[u32], out: &mut [u8; PROGRAM_BYTES]) -> usize
-    ensures { wrote result out.new ≡ saves words.now out.old }
+// Puts the bytes of a program's words at the start of the buffer, and answers their number. Words that are no program change nothing.
+#[tactic(auto, unfolding(crate::specs::Program::saves))]
+pub fn bytes(words: &[u32], out: &mut [u8; PROGRAM_BYTES]) -> Result<usize, Refusal>
+    ensures written { wrote (count_of result) out.new ≡ saves words.now out.old }
+    ensures refused { IsErrOf result Refusal.Program ↔ IsTrue (bad_program (length words.now)) }
 {
     if answer::bad_program(words.len()) {
-        return 0;
+        return Err(Refusal::Program);
     }
-    put_words(words, out)
+    Ok(put_words(words, out))
 }

@@ -1,10 +1,10 @@
 -- `take_words` meets its contract: after k turns the first k words stand in the part of the buffer.
-use Rattle.std.proofs.Common.{◌+◌, ◌*◌, ◌<◌, ◌≡◌, [], ◌∷◌, ◌++◌, append-nil, sym, ap, ◌∙◌, add-one, arith, length, take, drop, length-take}
+use Rattle.std.proofs.Common.{◌+◌, ◌*◌, ◌<◌, ◌≡◌, [], ◌∷◌, append-nil, zero-add, sym, ap, ◌∙◌, add-one, arith, length, take, length-take}
 use Rattle.std.proofs.Math.ListN.{set}
 use Rattle.std.proofs.lemmas.List.{drop_all}
 use Rattle.text.proofs.Placing.{next, writes_one, writes-none, buffer-is}
 use Rattle.little_endian.proofs.Numbers.{words-length}
-use Rattle.text.specs.Buffer.{writes, wrote}
+use Rattle.text.specs.Buffer.{writes}
 use Rattle.little_endian.specs.Numbers.{number_at, words_of}
 use Rattle.program.proofs.reading.take_words.Goals as goal
 
@@ -34,4 +34,4 @@ returns c =
     let long = length-take n p in
     let e : c.loop-k.k ≡ n = omega (arith, length-take n p) in
     let items = buffer-is (rw e at c.loop-k.invariant) in
-    rw (items, m, drop_all n (take n p) (omega (arith, long)), append-nil (words_of n s.input.now))
+    rw (items, m, zero-add n, drop_all n (take n p) (omega (arith, long)), append-nil (words_of n s.input.now))

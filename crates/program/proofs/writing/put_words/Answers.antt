@@ -1,5 +1,5 @@
 -- `put_words` meets its contract: after k turns the bytes of the first k words stand in the buffer.
-use Rattle.std.proofs.Common.{ℕ, ◌≡◌, List, length, get_or, refl, sym, ap, ◌∙◌, add-one, arith}
+use Rattle.std.proofs.Common.{ℕ, ◌≡◌, List, length, get_or, sym, ap, ◌∙◌, add-one, arith}
 use Rattle.text.specs.Buffer.{wrote, writes, puts}
 use Rattle.text.proofs.Placing.{next, puts-at, writes-none, length-wrote}
 use Rattle.little_endian.specs.Numbers.{number_bytes, bytes_of}
@@ -25,7 +25,7 @@ loop-word-preserved c =
     let e : wrote q.result q.new.out ≡ writes l.out l.at w =
     q.ensures ∙ ap (λ (u : List ℕ). puts (wrote l.at l.out) u) (c.to_le_bytes.ensures ∙ sym (four_bytes (get_or ws k 0))) ∙ puts-at l.out l.at w (omega arith) in
     next x.out.now 0 (bytes_of k ws) (omega arith) w l.at l.out q.result q.new.out l.invariant e
-      ∙ ap (λ n. writes x.out.now 0 (bytes_of n ws)) (sym (add-one k))
+    ∙ ap (λ n. writes x.out.now 0 (bytes_of n ws)) (sym (add-one k))
 
 pub returns : goal.returns
 returns c =
