@@ -1,23 +1,21 @@
 -- Digits read one by one, up to the limit.
-use Prim.Native.Nat.{ℕ, zero, suc, ◌+◌, ◌-◌, ◌*◌, ◌<◌, ◌≤◌}
+use Prim.Native.Nat.{ℕ, ◌+◌, ◌-◌, ◌*◌, ◌<◌, ◌≤◌}
 use mathlib.Core.Bool.{Bool, true, false, ◌&&◌, cond}
 use mathlib.Core.List.{List, [], ◌∷◌}
 use mathlib.Core.Option.{none, some}
 use mathlib.Core.Path.{◌≡◌, refl, sym, ap, ◌∙◌}
 use native.Mathlib.Numerals.{add-one}
 use native.Mathlib.Omega.{arith}
-use borrow.Author.Tests.{lt-ltb, le-ltb, ltb-true, ltb-false}
-use lib.Dec.{ltb, eqb, leb}
-use lib.ListN.{length, take, get_or, length-take, drop_of_length-le}
-use native.Mathlib.Nat.{min-le_left, mul-le-mul, mul-le-mul_left}
-use lib.Seq.{slice, length-slice, slice-cons, slice_empty, drop-drop, get_or-drop, get_or-take}
+use borrow.Author.Tests.{lt-ltb, le-ltb, ltb-true, ltb-false, eq-eqb, ne_eqb, eqb-true, eqb-false}
+use lib.Dec.{ltb, eqb}
+use lib.ListN.{length, take, drop, get_or, length-drop, drop_of_length-le}
+use native.Mathlib.Nat.{mul-le-mul, mul-le-mul_left}
+use lib.Seq.{drop-cons, take-length}
+use Rattle.std.specs.List.{list_all, starts_with}
 use Rattle.token.specs.Byte.{digit, is_letter}
-use Rattle.token.specs.Name.{all_letters, is_label}
-use Rattle.token.specs.Number.{digits_on, numeral, number}
+use Rattle.token.specs.Name.{all_letters}
+use Rattle.token.specs.Number.{digits_on, numeral, is_hex}
 use Rattle.token.specs.Word.{cap, capped}
-
-pub past-part : (l : List ℕ) (start stop : ℕ) → stop ≤ start → slice start stop l ≡ []
-past-part l start stop h = drop_of_length-le (take stop l) {i = start} (omega (arith, length-take stop l, min-le_left stop (length l)))
 
 cap-small-by : (n : ℕ) → n ≤ 0x80000001 → (b : Bool) → ltb 0x80000000 n ≡ b → cap n ≡ n
 unfolding cap
@@ -51,9 +49,9 @@ cap-on-by : (base c : ℕ) (cs : List ℕ) (m : ℕ) (b : Bool) → capped (digi
 cap-on-by base c cs m true h = h
 cap-on-by base c cs m false h = refl
 
-digit-taken : (l : List ℕ) (i stop base n : ℕ) → i < stop → stop ≤ length l → digit (get_or l i 0) < base → capped (digits_on base n (slice i stop l)) ≡ capped (digits_on base (n * base + digit (get_or l i 0)) (slice (i + 1) stop l))
+digit-taken : (l : List ℕ) (i base n : ℕ) → i < length l → digit (get_or l i 0) < base → capped (digits_on base n (drop i l)) ≡ capped (digits_on base (n * base + digit (get_or l i 0)) (drop (i + 1) l))
 unfolding digits_on
-digit-taken l i stop base n h k d = rw (slice-cons i stop l 0 h k, lt-ltb (digit (get_or l i 0)) base d, add-one i)
+digit-taken l i base n h d = rw (drop-cons l i 0 h, lt-ltb (digit (get_or l i 0)) base d, add-one i)
 
 pub cap-at-most : (n : ℕ) → cap n ≤ 0x80000001
 unfolding cap
@@ -69,90 +67,62 @@ cap-on base h [] m = ap some (cap-small (cap m) (cap-at-most m))
 cap-on base h (c ∷ cs) m = cap-on-by base c cs m (ltb (digit c) base) (sym (cap-on base h cs (cap m * base + digit c)) ∙ ap (λ k. capped (digits_on base k cs)) (cap-step m base (digit c) h) ∙ cap-on base h cs (m * base + digit c))
 
 -- one digit further
-pub digit-on : (l : List ℕ) (i stop base n : ℕ) → i < stop → stop ≤ length l → 1 < base → digit (get_or l i 0) < base → capped (digits_on base (cap (n * base + digit (get_or l i 0))) (slice (i + 1) stop l)) ≡ capped (digits_on base n (slice i stop l))
-digit-on l i stop base n h k b d =
-    cap-on base b (slice (i + 1) stop l) (n * base + digit (get_or l i 0))
-    ∙ sym (digit-taken l i stop base n h k d)
+pub digit-on : (l : List ℕ) (i base n : ℕ) → i < length l → 1 < base → digit (get_or l i 0) < base → capped (digits_on base (cap (n * base + digit (get_or l i 0))) (drop (i + 1) l)) ≡ capped (digits_on base n (drop i l))
+digit-on l i base n h b d =
+    cap-on base b (drop (i + 1) l) (n * base + digit (get_or l i 0))
+    ∙ sym (digit-taken l i base n h d)
 
-pub digit-bad : (l : List ℕ) (i stop base n : ℕ) → i < stop → stop ≤ length l → base ≤ digit (get_or l i 0) → none ≡ capped (digits_on base n (slice i stop l))
+pub digit-bad : (l : List ℕ) (i base n : ℕ) → i < length l → base ≤ digit (get_or l i 0) → none ≡ capped (digits_on base n (drop i l))
 unfolding digits_on
-digit-bad l i stop base n h k d = rw (slice-cons i stop l 0 h k, le-ltb (digit (get_or l i 0)) base d)
+digit-bad l i base n h d = rw (drop-cons l i 0 h, le-ltb (digit (get_or l i 0)) base d)
 
-pub digits-end : (l : List ℕ) (i stop base n : ℕ) → i ≡ stop → n ≤ 0x80000001 → some n ≡ capped (digits_on base n (slice i stop l))
+pub digits-end : (l : List ℕ) (i base n : ℕ) → length l ≤ i → n ≤ 0x80000001 → some n ≡ capped (digits_on base n (drop i l))
 unfolding digits_on
-digits-end l i stop base n e h = rw (e, slice_empty stop l, cap-small n h)
+digits-end l i base n e h = rw (drop_of_length-le l {i = i} e, cap-small n h)
 
-pub numeral-none : (l : List ℕ) (start stop base : ℕ) → stop ≤ start → none ≡ capped (numeral base (slice start stop l))
+pub numeral-none : (l : List ℕ) (base : ℕ) → length l ≡ 0 → none ≡ capped (numeral base l)
 unfolding numeral
-numeral-none l start stop base h = rw (past-part l start stop h)
+numeral-none [] base h = refl
+numeral-none (c ∷ l) base h = absurd (omega arith)
 
-pub numeral-some : (l : List ℕ) (start stop base : ℕ) → start < stop → stop ≤ length l → capped (digits_on base 0 (slice start stop l)) ≡ capped (numeral base (slice start stop l))
+pub numeral-some : (l : List ℕ) (base : ℕ) → 0 < length l → capped (digits_on base 0 l) ≡ capped (numeral base l)
 unfolding numeral
-numeral-some l start stop base h k = rw (slice-cons start stop l 0 h k)
+numeral-some [] base h = absurd (omega arith)
+numeral-some (c ∷ l) base h = refl
 
 -- letters
 
-pub letter-on : (l : List ℕ) (i stop : ℕ) → i < stop → stop ≤ length l → is_letter (get_or l i 0) ≡ true → all_letters (slice (i + 1) stop l) ≡ all_letters (slice i stop l)
+pub letters_are : (l : List ℕ) → list_all is_letter l ≡ all_letters l
 unfolding all_letters
-letter-on l i stop h k e = rw (slice-cons i stop l 0 h k, e, add-one i)
-
-pub letter-bad : (l : List ℕ) (i stop : ℕ) → i < stop → stop ≤ length l → is_letter (get_or l i 0) ≡ false → false ≡ all_letters (slice i stop l)
-unfolding all_letters
-letter-bad l i stop h k e = rw (slice-cons i stop l 0 h k, e)
-
-pub letters-end : (l : List ℕ) (i stop : ℕ) → stop ≤ i → true ≡ all_letters (slice i stop l)
-unfolding all_letters
-letters-end l i stop h = rw (past-part l i stop h)
-
--- a word's length, and the test for a label
-and_assoc : (a b c : Bool) → a && (b && c) ≡ (a && b) && c
-and_assoc true b c = refl
-and_assoc false b c = refl
-
-pub part_length : (l : List ℕ) (start stop : ℕ) → stop ≤ length l → length (slice start stop l) ≡ stop - start
-part_length l start stop h = length-slice start stop l h
-
-pub is-label : (l : List ℕ) (start stop : ℕ) (r : Bool) → r ≡ all_letters (slice start stop l) → start < stop → stop ≤ length l → is_label (slice start stop l) ≡ (r && leb 1 (stop - start)) && leb (stop - start) 16
-is-label l start stop r e h k = rw (part_length l start stop k, e) (and_assoc (all_letters (slice start stop l)) (leb 1 (stop - start)) (leb (stop - start) 16))
-
--- the base of a number
-
-byte_at : (l : List ℕ) (start stop i : ℕ) → start + i < stop → get_or (slice start stop l) i 0 ≡ get_or l (start + i) 0
-byte_at l start stop i h = rw (get_or-drop start (take stop l) i 0, get_or-take stop l (start + i) 0 h)
-
-first_byte : (l : List ℕ) (start stop : ℕ) → start + 1 < stop → get_or (slice start stop l) 0 0 ≡ get_or l start 0
-first_byte l start stop h = byte_at l start stop 0 (omega arith) ∙ ap (λ i. get_or l i 0) (omega arith)
-
-pub and-false : (b : Bool) → b && false ≡ false
-and-false true = refl
-and-false false = refl
-
-past_end : (l : List ℕ) (i : ℕ) → length l ≤ i → get_or l i 0 ≡ 0
-past_end [] zero h = refl
-past_end [] (suc i) h = refl
-past_end (c ∷ l) zero h = absurd (omega arith)
-past_end (c ∷ l) (suc i) h = past_end l i (omega arith)
-
-no_second : (l : List ℕ) (start stop : ℕ) → stop ≤ start + 1 → get_or (slice start stop l) 1 0 ≡ 0
-no_second l start stop h = get_or-drop start (take stop l) 1 0 ∙ past_end (take stop l) (start + 1) (omega (arith, length-take stop l, min-le_left stop (length l)))
-
-pub one-digit : (l : List ℕ) (start stop : ℕ) → stop ≤ start + 1 → capped (numeral 10 (slice start stop l)) ≡ capped (number (slice start stop l))
-unfolding number
-one-digit l start stop h = rw (no_second l start stop h, and-false (eqb (get_or (slice start stop l) 0 0) 48))
-
-pub hex-number : (l : List ℕ) (start stop : ℕ) → start + 1 < stop → eqb (get_or l start 0) 48 && eqb (get_or l (start + 1) 0) 120 ≡ true → capped (numeral 16 (slice (start + 2) stop l)) ≡ capped (number (slice start stop l))
-unfolding number
-hex-number l start stop h e = rw (byte_at l start stop 1 h, first_byte l start stop h, e) (ap (λ w. capped (numeral 16 w)) (sym (drop-drop 2 start (take stop l))))
-
-pub decimal-number : (l : List ℕ) (start stop : ℕ) → start + 1 < stop → eqb (get_or l start 0) 48 && eqb (get_or l (start + 1) 0) 120 ≡ false → capped (numeral 10 (slice start stop l)) ≡ capped (number (slice start stop l))
-unfolding number
-decimal-number l start stop h e = rw (byte_at l start stop 1 h, first_byte l start stop h, e)
-
--- the whole of a text is its part from its start to its end
-pub whole : (l : List ℕ) → slice 0 (length l) l ≡ l
-whole [] = refl
-whole (c ∷ l) = ap (λ r. c ∷ r) (whole l)
+letters_are [] = refl
+letters_are (c ∷ l) = ap (λ b. is_letter c && b) (letters_are l)
 
 -- a number and a base are multiplied without loss
 pub small_product : (n base : ℕ) → n ≤ 0x80000001 → base ≤ 16 → n * base ≤ 0x800000010
 small_product n base h k = mul-le-mul h k
+
+-- whether a word begins as a hex number does
+
+flip_by : (a b : ℕ) (x : Bool) → eqb a b ≡ x → x ≡ eqb b a
+flip_by a b true e = sym (eq-eqb b a (sym (eqb-true a b e)))
+flip_by a b false e = sym (ne_eqb b a (λ h. eqb-false a b e (sym h)))
+
+flip : (a b : ℕ) → eqb a b ≡ eqb b a
+flip a b = flip_by a b (eqb a b) refl
+
+and-true : (b : Bool) → b && true ≡ b
+and-true true = refl
+and-true false = refl
+
+and-false : (b : Bool) → b && false ≡ false
+and-false true = refl
+and-false false = refl
+
+pub starts_hex : (w : List ℕ) → starts_with eqb w (48 ∷ 120 ∷ []) ≡ is_hex w
+starts_hex [] = refl
+starts_hex (a ∷ []) = and-false (eqb 48 a) ∙ sym (and-false (eqb a 48))
+starts_hex (a ∷ b ∷ w) = rw (flip 48 a, flip 120 b, and-true (eqb b 120))
+
+-- what stands behind the first two bytes
+pub behind_two : (w : List ℕ) → take (length w - 2) (drop 2 w) ≡ drop 2 w
+behind_two w = ap (λ n. take n (drop 2 w)) (sym (length-drop 2 w)) ∙ take-length (drop 2 w)

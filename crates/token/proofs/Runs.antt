@@ -1,6 +1,6 @@
 -- Blanks and words at the places of a line.
 use Prim.Native.Nat.{ℕ, zero, suc, ◌+◌, ◌-◌, ◌<◌, ◌≤◌}
-use mathlib.Core.Bool.{Bool, true, false, ◌||◌}
+use mathlib.Core.Bool.{Bool, true, false, ◌||◌, cond}
 use borrow.Author.Tests.{eqb-true}
 use lib.Dec.{eqb}
 use mathlib.Core.List.{List, [], ◌∷◌}
@@ -10,30 +10,39 @@ use native.Mathlib.Numerals.{add-one}
 use native.Mathlib.Omega.{arith}
 use lib.ListN.{length, take, drop, get_or, length-drop, drop_of_length-le}
 use lib.Seq.{drop-cons, drop-drop, get_or-drop, slice}
+use Rattle.std.specs.List.{prefix_len}
+use Rattle.std.proofs.lemmas.List.Recursion.{same_from_clauses}
+use Rattle.std.proofs.lemmas.List.Folds.{length-prefix_len}
 use Rattle.token.specs.Byte.{is_blank, in_word}
 use Rattle.token.specs.Token.{word, mark, leading_blanks, leading_word, tokens_in, tokens}
 
--- one place further, and at the end of a row
+-- what the code counts: the bytes from the front that pass a test
 
-pub run_on : (l : List ℕ) (i : ℕ) → i < length l → in_word (get_or l i 0) ≡ true → (i + 1) + length (leading_word (drop (i + 1) l)) ≡ i + length (leading_word (drop i l))
-unfolding leading_word
-run_on l i h e = rw (drop-cons l i 0 h, e, add-one i) (omega arith)
+count_by : (b : Bool) (n : ℕ) → cond b (1 + n) 0 ≡ cond b (suc n) 0
+count_by true n = omega arith
+count_by false n = refl
 
-pub run-stops : (l : List ℕ) (i : ℕ) → i < length l → in_word (get_or l i 0) ≡ false → i ≡ i + length (leading_word (drop i l))
+pub blanks_counted : (l : List ℕ) → length (take (prefix_len is_blank l) l) ≡ leading_blanks l
+unfolding leading_blanks
+blanks_counted l =
+    length-prefix_len is_blank l
+    ∙ same_from_clauses (prefix_len is_blank) leading_blanks (λ c n. cond (is_blank c) (suc n) 0) refl (λ c t. count_by (is_blank c) (prefix_len is_blank t)) (λ c t. refl) l
+
+word_length_by : (c : ℕ) (t : List ℕ) (b : Bool) → length (cond b (c ∷ leading_word t) []) ≡ cond b (suc (length (leading_word t))) 0
+word_length_by c t true = refl
+word_length_by c t false = refl
+
+pub run_counted : (l : List ℕ) → length (take (prefix_len in_word l) l) ≡ length (leading_word l)
 unfolding leading_word
-run-stops l i h e = rw (drop-cons l i 0 h, e) (omega arith)
+run_counted l =
+    length-prefix_len in_word l
+    ∙ same_from_clauses (prefix_len in_word) (λ t. length (leading_word t)) (λ c n. cond (in_word c) (suc n) 0) refl (λ c t. count_by (in_word c) (prefix_len in_word t)) (λ c t. word_length_by c t (in_word c)) l
+
+-- at the end of a row
 
 pub run_ends : (l : List ℕ) (i : ℕ) → length l ≤ i → i ≡ i + length (leading_word (drop i l))
 unfolding leading_word
 run_ends l i h = rw (drop_of_length-le l {i = i} h) (omega arith)
-
-pub blank-on : (l : List ℕ) (i : ℕ) → i < length l → is_blank (get_or l i 0) ≡ true → (i + 1) + leading_blanks (drop (i + 1) l) ≡ i + leading_blanks (drop i l)
-unfolding leading_blanks
-blank-on l i h e = rw (drop-cons l i 0 h, e, add-one i) (omega arith)
-
-pub blank-stops : (l : List ℕ) (i : ℕ) → i < length l → is_blank (get_or l i 0) ≡ false → i ≡ i + leading_blanks (drop i l)
-unfolding leading_blanks
-blank-stops l i h e = rw (drop-cons l i 0 h, e) (omega arith)
 
 pub blank-ends : (l : List ℕ) (i : ℕ) → length l ≤ i → i ≡ i + leading_blanks (drop i l)
 unfolding leading_blanks
@@ -60,6 +69,16 @@ pub run_short : (t : List ℕ) → length (leading_word t) ≤ length t
 unfolding leading_word
 run_short [] = omega arith
 run_short (c ∷ t) = short-by c t (in_word c) refl (run_short t)
+
+blanks_short_by : (c : ℕ) (t : List ℕ) (b : Bool) → is_blank c ≡ b → leading_blanks t ≤ length t → leading_blanks (c ∷ t) ≤ length (c ∷ t)
+unfolding leading_blanks
+blanks_short_by c t true e h = rw e (omega arith)
+blanks_short_by c t false e h = rw e (omega arith)
+
+pub blanks_short : (t : List ℕ) → leading_blanks t ≤ length t
+unfolding leading_blanks
+blanks_short [] = omega arith
+blanks_short (c ∷ t) = blanks_short_by c t (is_blank c) refl (blanks_short t)
 
 -- blanks make no tokens
 

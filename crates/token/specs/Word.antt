@@ -1,9 +1,8 @@
 -- The cases of the code's answers about words.
-use Rattle.std.specs.Prelude.{ℕ, ◌+◌, cond, ltb}
+use Rattle.std.specs.Prelude.{ℕ, ◌+◌, cond, ltb, Some, None}
+use Rattle.std.specs.Prelude as R
 use Rattle.std.proofs.Math.Option.{Option, none, some}
 use Rattle.token.specs.Number.{limit}
-use Rattle.token.specs.declared.word.Number.{Number}
-use Rattle.token.specs.declared.word.Number.TheVariants.{Is, NoNumber}
 
 -- a number, or one more than the limit for every larger one
 unfoldable pub cap : ℕ → ℕ
@@ -13,6 +12,6 @@ abbrev pub capped : Option ℕ → Option ℕ
 capped none = none
 capped (some n) = some (cap n)
 
-abbrev pub numbered : Number → Option ℕ
-numbered (Is n) = some n
-numbered NoNumber = none
+abbrev pub numbered : R.Option ℕ → Option ℕ
+numbered (Some n) = some n
+numbered None = none

@@ -5,19 +5,19 @@ ghost use Rattle.token.specs.Byte.{is_blank, is_digit, is_letter, in_word, digit
 pub fn is_blank(c: u8) -> bool
     ensures { result ≡ is_blank c }
 {
-    (c == 32) | (c == 9)
+    (c == b' ') | (c == b'\t')
 }
 
 pub fn is_digit(c: u8) -> bool
     ensures { result ≡ is_digit c }
 {
-    (48 <= c) & (c <= 57)
+    c.is_ascii_digit()
 }
 
 pub fn is_letter(c: u8) -> bool
     ensures { result ≡ is_letter c }
 {
-    (97 <= c) & (c <= 122) | (65 <= c) & (c <= 90)
+    c.is_ascii_lowercase() | c.is_ascii_uppercase()
 }
 
 pub fn in_word(c: u8) -> bool
@@ -30,16 +30,10 @@ pub fn in_word(c: u8) -> bool
 pub fn digit_of(c: u8) -> u64
     ensures { result ≡ digit c }
 {
-    let small = (97 <= c) & (c <= 102);
-    let large = (65 <= c) & (c <= 70);
-    if is_digit(c) {
-        return (c - 48) as u64;
+    match c {
+        b'0'..=b'9' => u64::from(c - b'0'),
+        b'a'..=b'f' => u64::from(c - b'a') + 10,
+        b'A'..=b'F' => u64::from(c - b'A') + 10,
+        _ => 16,
     }
-    if small {
-        return (c - 87) as u64;
-    }
-    if large {
-        return (c - 55) as u64;
-    }
-    16
 }

@@ -6,5 +6,5 @@ mod token;
 mod word;
 
 pub use byte::is_blank;
-pub use token::{Place, Token, past_mark, past_run, token_at};
-pub use word::{Number, decimal, is_label, number_of};
+pub use token::{Token, past_mark, past_run, token_at};
+pub use word::{decimal, is_label, number_of};

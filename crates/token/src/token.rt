@@ -6,45 +6,45 @@ ghost use Rattle.token.specs.Scan.{token_from, place_past};
 use crate::byte::{in_word, is_blank};
 
 // A token: a word from its first byte to behind its last, or a mark and the place behind it.
-#[derive(Clone, Copy)]
+#[derive(Clone, Copy, Debug, PartialEq, Eq)]
 pub enum Token {
     End,
     Word(usize, usize),
     Mark(u8, usize),
 }
 
-#[derive(Clone, Copy)]
-pub enum Place {
-    At(usize),
-    NoPlace,
+// How many blanks a text begins with.
+fn blanks(text: &[u8]) -> usize
+    ensures { result ≡ leading_blanks text.now }
+{
+    text.iter().take_while(|c| is_blank(**c)).count()
+}
+
+// How many letters and digits in a row a text begins with.
+fn run(text: &[u8]) -> usize
+    ensures { result ≡ length (leading_word text.now) }
+{
+    text.iter().take_while(|c| in_word(**c)).count()
 }
 
 // Behind the blanks that stand from a place on.
 fn past_blanks(line: &[u8], at: usize) -> usize
     ensures { result ≡ at + leading_blanks (drop at line.now) }
 {
-    let mut i = at;
-    while i < line.len() {
-        if !is_blank(line[i]) {
-            return i;
-        }
-        i += 1;
+    match line.get(at..) {
+        Some(rest) => at + blanks(rest),
+        None => at,
     }
-    i
 }
 
 // Behind the letters and digits in a row that stand from a place on.
 pub fn past_run(line: &[u8], at: usize) -> usize
     ensures { result ≡ at + length (leading_word (drop at line.now)) }
 {
-    let mut i = at;
-    while i < line.len() {
-        if !in_word(line[i]) {
-            return i;
-        }
-        i += 1;
+    match line.get(at..) {
+        Some(rest) => at + run(rest),
+        None => at,
     }
-    i
 }
 
 // The first token from a place on.
@@ -52,10 +52,9 @@ pub fn token_at(line: &[u8], at: usize) -> Token
     ensures { result ≡ token_from line.now at }
 {
     let start = past_blanks(line, at);
-    if line.len() <= start {
+    let Some(&c) = line.get(start) else {
         return Token::End;
-    }
-    let c = line[start];
+    };
     let stop = past_run(line, start);
     if stop == start {
         return Token::Mark(c, start + 1);
@@ -64,18 +63,12 @@ pub fn token_at(line: &[u8], at: usize) -> Token
 }
 
 // Behind a mark.
-pub fn past_mark(line: &[u8], at: usize, c: u8) -> Place
+#[tactic(auto, unfolding(crate::specs::Scan::place_past))]
+pub fn past_mark(line: &[u8], at: usize, c: u8) -> Option<usize>
     ensures { result ≡ place_past c line.now at }
 {
-    let t = token_at(line, at);
-    match t {
-        Token::End => Place::NoPlace,
-        Token::Word(_, _) => Place::NoPlace,
-        Token::Mark(d, next) => {
-            if d == c {
-                return Place::At(next);
-            }
-            Place::NoPlace
-        }
+    match token_at(line, at) {
+        Token::Mark(d, next) if d == c => Some(next),
+        _ => None,
     }
 }

@@ -1,29 +1,9 @@
-use mathlib.Core.Path.{refl, sym, ◌∙◌}
-use native.Mathlib.Omega.{arith}
-use borrow.Author.Rules.{rules}
-use Rattle.token.proofs.Runs.{run_on, run-stops, run_ends}
+use Rattle.std.proofs.Common.{arith}
+use Rattle.token.proofs.Runs.{run_short, run_ends}
 use Rattle.token.proofs.token.past_run.Goals as goal
 
-pub loop-i-init : goal.loop-i-init
-loop-i-init c = refl
+pub overflow_add-result : goal.overflow_add-result
+overflow_add-result c = omega (arith, c.in-Some.ensures, run_short c.in-Some.rest.now)
 
-pub bounds-line-i : goal.bounds-line-i
-bounds-line-i c = omega arith
-
-pub in_word-requires : goal.in_word-requires
-in_word-requires c = search rules
-
-pub returns-then-not-in_word : goal.returns-then-not-in_word
-returns-then-not-in_word c = run-stops c.args.line.now c.loop-i.i (omega arith) (sym c.in_word.ensures ∙ c.if-not-in_word.true) ∙ c.loop-i.invariant
-
-pub overflow_add-i : goal.overflow_add-i
-overflow_add-i c = omega arith
-
-pub loop-i-smaller : goal.loop-i-smaller
-loop-i-smaller c = omega arith
-
-pub loop-i-preserved : goal.loop-i-preserved
-loop-i-preserved c = run_on c.args.line.now c.loop-i.i (omega arith) (sym c.in_word.ensures ∙ c.if-not-in_word.false) ∙ c.loop-i.invariant
-
-pub returns : goal.returns
-returns c = run_ends c.args.line.now c.loop-i.i (omega arith) ∙ c.loop-i.invariant
+pub returns-in-None : goal.returns-in-None
+returns-in-None c = run_ends c.args.line.now c.args.at (omega (arith, c.in-None.ensures.lookup))

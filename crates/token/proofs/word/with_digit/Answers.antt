@@ -14,6 +14,6 @@ pub returns-then-more-gt2147483648 : goal.returns-then-more-gt2147483648
 unfolding cap
 returns-then-more-gt2147483648 c = rw (lt-ltb 0x80000000 _ c.if-more-gt2147483648.true)
 
-pub returns : goal.returns
+pub returns-else-more-gt2147483648 : goal.returns-else-more-gt2147483648
 unfolding cap
-returns c = rw (le-ltb 0x80000000 _ c.if-more-gt2147483648.false)
+returns-else-more-gt2147483648 c = rw (le-ltb 0x80000000 _ c.if-more-gt2147483648.false)
