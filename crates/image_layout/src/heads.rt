@@ -22,22 +22,15 @@ fn opens_with(row: RecordRow, i: usize, image: &[u8], at: usize) -> bool
     requires { at + head_length row.places ≤ length image.now }
     ensures { result ≡ stands_at (head_of row i) image.now at }
 {
-    let places = row.places;
-    let placed = places_stand(places, i, image, at + 2);
-    (image[at] == row.first) & (image[at + 1] == row.second) & placed
+    (image[at] == row.first)
+        & (image[at + 1] == row.second)
+        & places_stand(row.places, i, image, at + 2)
 }
 
 // Whether record i stands at a place: not where the bytes end before its mark and place numbers do.
 pub fn head_stands(row: RecordRow, i: usize, image: &[u8], at: usize) -> bool
     ensures { result ≡ head_stands row i image.now at }
 {
-    let places = row.places;
-    let length = head_length(places);
-    if image.len() < length {
-        return false;
-    }
-    if image.len() - length < at {
-        return false;
-    }
-    opens_with(row, i, image, at)
+    let length = head_length(row.places);
+    length <= image.len() && at <= image.len() - length && opens_with(row, i, image, at)
 }

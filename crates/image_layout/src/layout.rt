@@ -4,8 +4,8 @@ ghost use Rattle.image_layout.specs.Layout.{fixed_of, form_of, thread_row, row_o
 
 use answer::{BLOCK_RECORD, FIXED_PART, OLD_FIXED_PART};
 
-// The kinds of records. Ti is TH in the old form.
-#[derive(Clone, Copy)]
+// The kinds of records, in their order in the image. Ti is TH in the old form.
+#[derive(Clone, Copy, PartialEq, Eq, Debug)]
 pub enum Kind {
     Hd,
     Ti,
@@ -15,7 +15,7 @@ pub enum Kind {
 }
 
 // The place numbers behind a record's mark.
-#[derive(Clone, Copy)]
+#[derive(Clone, Copy, PartialEq, Eq, Debug)]
 pub enum Places {
     Nothing,
     ByThread,
@@ -24,21 +24,21 @@ pub enum Places {
 }
 
 // The forms of an image: the newest, and the one that holds no counts of turns.
-#[derive(Clone, Copy)]
+#[derive(Clone, Copy, PartialEq, Eq, Debug)]
 pub enum Form {
     Newest,
     Old,
 }
 
 // What the layout goes by: the form, and the 64-byte blocks of memory.
-#[derive(Clone, Copy)]
+#[derive(Clone, Copy, PartialEq, Eq, Debug)]
 pub struct Shape {
     pub form: Form,
     pub blocks: u16,
 }
 
 // A kind's mark, its place numbers, how many records there are, and the bytes behind the place numbers of one.
-#[derive(Clone, Copy)]
+#[derive(Clone, Copy, PartialEq, Eq, Debug)]
 pub struct RecordRow {
     pub first: u8,
     pub second: u8,
@@ -60,23 +60,14 @@ pub const RECORD_KINDS: usize = 2;
 pub fn kind_at(position: usize) -> Kind
     ensures { result ≡ kind_at position }
 {
-    if position < KINDS {
-        return ORDER[position];
-    }
-    ORDER[0]
+    ORDER.get(position).copied().unwrap_or(Kind::Hd)
 }
 
 // The position of a kind.
 fn order_of(kind: Kind) -> usize
     ensures { result ≡ order_of kind }
 {
-    match kind {
-        Kind::Hd => 0,
-        Kind::Ti => 1,
-        Kind::Sr => 2,
-        Kind::Vr => 3,
-        Kind::Mm => 4,
-    }
+    kind as usize
 }
 
 // The fixed part of the length of a form's image.
@@ -94,9 +85,10 @@ pub fn form_of(size: usize) -> Form
     ensures { result ≡ form_of size }
 {
     if size % BLOCK_RECORD == OLD_FIXED_PART as usize % BLOCK_RECORD {
-        return Form::Old;
+        Form::Old
+    } else {
+        Form::Newest
     }
-    Form::Newest
 }
 
 // The row of a thread's entry.
@@ -113,14 +105,12 @@ pub fn thread_row(form: Form) -> RecordRow
 pub fn row_of(shape: Shape, kind: Kind) -> RecordRow
     ensures { result ≡ row_of shape kind }
 {
-    let form = shape.form;
-    let blocks = shape.blocks as usize;
     match kind {
         Kind::Hd => row_with(b'H', b'D', Places::Nothing, 1, 2),
-        Kind::Ti => thread_row(form),
+        Kind::Ti => thread_row(shape.form),
         Kind::Sr => row_with(b'S', b'R', Places::ByThread, 8, 256),
         Kind::Vr => row_with(b'V', b'R', Places::ByRegister, 512, 64),
-        Kind::Mm => row_with(b'M', b'M', Places::ByBlock, blocks, 64),
+        Kind::Mm => row_with(b'M', b'M', Places::ByBlock, shape.blocks as usize, 64),
     }
 }
 
@@ -142,16 +132,8 @@ fn row_with(first: u8, second: u8, places: Places, count: usize, size: u16) -> R
 pub fn count_at(shape: Shape, position: usize) -> usize
     ensures { result ≡ (row_of shape (kind_at position)).count }
 {
-    let hd = row_of(shape, Kind::Hd);
-    let ti = row_of(shape, Kind::Ti);
-    let sr = row_of(shape, Kind::Sr);
-    let vr = row_of(shape, Kind::Vr);
-    let mm = row_of(shape, Kind::Mm);
-    let counts = [hd.count, ti.count, sr.count, vr.count, mm.count];
-    if position < KINDS {
-        return counts[position];
-    }
-    counts[0]
+    let counts = ORDER.map(|kind| row_of(shape, kind).count);
+    counts.get(position).copied().unwrap_or(counts[0])
 }
 
 // The bytes of a mark and place numbers.
@@ -161,8 +143,7 @@ pub fn head_length(places: Places) -> usize
     match places {
         Places::Nothing => 2,
         Places::ByThread => 3,
-        Places::ByRegister => 4,
-        Places::ByBlock => 4,
+        Places::ByRegister | Places::ByBlock => 4,
     }
 }
 
@@ -170,27 +151,24 @@ pub fn head_length(places: Places) -> usize
 pub fn record_size(row: RecordRow) -> usize
     ensures { result ≡ record_size row }
 {
-    let places = row.places;
-    head_length(places) + row.size as usize
+    head_length(row.places) + row.size as usize
 }
 
 // The bytes of all records of a kind.
 pub fn extent_of(shape: Shape, kind: Kind) -> usize
     ensures { result ≡ extent_of (row_of shape kind) }
 {
-    let records = row_of(shape, kind);
-    record_size(records) * records.count
+    let row = row_of(shape, kind);
+    record_size(row) * row.count
 }
 
 // Where a kind begins.
 fn start_of(shape: Shape, kind: Kind) -> usize
     ensures { result ≡ start_of shape (order_of kind) }
 {
-    let order = order_of(kind);
     let mut at: usize = 0;
-    for position in 0..order {
-        let extent = extent_of(shape, kind_at(position));
-        at += extent;
+    for before in &ORDER[..order_of(kind)] {
+        at += extent_of(shape, *before);
     }
     at
 }
@@ -199,7 +177,5 @@ fn start_of(shape: Shape, kind: Kind) -> usize
 pub fn first_body(shape: Shape, kind: Kind) -> usize
     ensures { result ≡ body_place (row_of shape kind) (start_of shape (order_of kind)) 0 }
 {
-    let row = row_of(shape, kind);
-    let places = row.places;
-    start_of(shape, kind) + head_length(places)
+    start_of(shape, kind) + head_length(row_of(shape, kind).places)
 }

@@ -12,5 +12,5 @@ pub returns : goal.returns
 returns c =
     let a = c.args in
     let l = a.image.now in
-    ap (λ b. eqb (get_or l a.at 0) a.row.first && eqb (get_or l (a.at + 1) 0) a.row.second && b) c.places_stand-placed.ensures
+    ap (λ b. eqb (get_or l a.at 0) a.row.first && eqb (get_or l (a.at + 1) 0) a.row.second && b) c.places_stand.ensures
     ∙ sym (stands-more l a.at a.row.first a.row.second (places_of a.row.places a.i))

@@ -1,23 +1,19 @@
 -- `layout::order_of` meets its contract.
+use Rattle.std.proofs.Common.{◌≡◌, refl}
+use denote.Enum.Declared.{tag_of}
+use Rattle.image_layout.specs.contracts.layout.Kind.{the_type}
 use Rattle.image_layout.specs.Layout.{position_in, order_of}
+use Rattle.image_layout.specs.Types.{Kind, Hd, Ti, Sr, Vr, Mm}
 use Rattle.image_layout.proofs.layout.order_of.Goals as goal
 
-pub returns-in-Hd : goal.returns-in-Hd
+-- the kinds are declared in their order
+declared : (k : Kind) → tag_of the_type k ≡ order_of k
 unfolding order_of position_in
-returns-in-Hd c = rw c.in-Hd.is
+declared Hd = refl
+declared Ti = refl
+declared Sr = refl
+declared Vr = refl
+declared Mm = refl
 
-pub returns-in-Ti : goal.returns-in-Ti
-unfolding order_of position_in
-returns-in-Ti c = rw c.in-Ti.is
-
-pub returns-in-Sr : goal.returns-in-Sr
-unfolding order_of position_in
-returns-in-Sr c = rw c.in-Sr.is
-
-pub returns-in-Vr : goal.returns-in-Vr
-unfolding order_of position_in
-returns-in-Vr c = rw c.in-Vr.is
-
-pub returns-in-Mm : goal.returns-in-Mm
-unfolding order_of position_in
-returns-in-Mm c = rw c.in-Mm.is
+pub returns : goal.returns
+returns c = declared c.args.kind
