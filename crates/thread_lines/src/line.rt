@@ -6,31 +6,25 @@ ghost use Rattle.text.specs.Parts.{puts_all};
 ghost use Rattle.thread_lines.specs.Text.{counter};
 
 use text::{hex_of, put_decimal, put_text};
-use thread_entry::{Status, is_idle};
+use thread_entry::{Status, Thread, is_idle};
 
-// Why a thread trapped.
+// Why a thread trapped. A number, as the status carries it: a record from outside may hold any.
+#[tactic(auto, unfolding(crate::specs::Lines::reason, isa::specs::Text::bytes))]
 fn put_reason(out: &mut [u8], at: usize, number: u8) -> usize
     ensures { wrote result out.new ≡ puts (wrote at out.old) (reason number) }
 {
-    if number == 1 {
-        return put_text(out, at, b"address not aligned");
+    match number {
+        1 => put_text(out, at, b"address not aligned"),
+        2 => put_text(out, at, b"address outside memory"),
+        3 => put_text(out, at, b"undefined word"),
+        4 => put_text(out, at, b"outside the program"),
+        5 => put_text(out, at, b"barrier refused"),
+        _ => put_text(out, at, b"not fitted"),
     }
-    if number == 2 {
-        return put_text(out, at, b"address outside memory");
-    }
-    if number == 3 {
-        return put_text(out, at, b"undefined word");
-    }
-    if number == 4 {
-        return put_text(out, at, b"outside the program");
-    }
-    if number == 5 {
-        return put_text(out, at, b"barrier refused");
-    }
-    put_text(out, at, b"not fitted")
 }
 
 // A word for a status, and the program counter.
+#[tactic(auto, unfolding(crate::specs::Text::counter))]
 fn put_at(out: &mut [u8], at: usize, word: &[u8], pc: u32) -> usize
     ensures { wrote result out.new ≡ puts_all (wrote at out.old) (word.now ∷ counter pc ∷ []) }
 {
@@ -40,6 +34,7 @@ fn put_at(out: &mut [u8], at: usize, word: &[u8], pc: u32) -> usize
 }
 
 // What a waiting thread waits for.
+#[tactic(auto, unfolding(isa::specs::Text::bytes))]
 fn put_barrier(out: &mut [u8], at: usize, id: u8, count: u8) -> usize
     ensures { wrote result out.new ≡ puts_all (wrote at out.old) (barrier_parts id count) }
 {
@@ -50,13 +45,12 @@ fn put_barrier(out: &mut [u8], at: usize, id: u8, count: u8) -> usize
 }
 
 // What a status carries: why a thread trapped, or what it waits for.
+#[tactic(auto, unfolding(isa::specs::Text::bytes))]
 pub fn put_carried(out: &mut [u8], at: usize, status: Status) -> usize
     ensures { wrote result out.new ≡ puts_all (wrote at out.old) (carried_parts status) }
 {
     match status {
-        Status::Idle => at,
-        Status::Running => at,
-        Status::Ended => at,
+        Status::Idle | Status::Running | Status::Ended => at,
         Status::Trapped(number) => {
             let at = put_text(out, at, b": ");
             put_reason(out, at, number)
@@ -66,6 +60,7 @@ pub fn put_carried(out: &mut [u8], at: usize, status: Status) -> usize
 }
 
 // A thread's status, its program counter, and what the status carries.
+#[tactic(auto, unfolding(isa::specs::Text::bytes))]
 fn put_state(out: &mut [u8], at: usize, status: Status, pc: u32) -> usize
     ensures { wrote result out.new ≡ puts_all (wrote at out.old) (state_parts status pc) }
 {
@@ -85,16 +80,19 @@ fn put_state(out: &mut [u8], at: usize, status: Status, pc: u32) -> usize
 }
 
 // What is counted, behind the number, and the end of the line.
+#[tactic(auto, unfolding(crate::specs::Lines::turns_unit, isa::specs::Text::bytes))]
 fn put_unit(out: &mut [u8], at: usize, turns: u32) -> usize
     ensures { wrote result out.new ≡ puts (wrote at out.old) (turns_unit turns) }
 {
     if turns == 1 {
-        return put_text(out, at, b" turn\n");
+        put_text(out, at, b" turn\n")
+    } else {
+        put_text(out, at, b" turns\n")
     }
-    put_text(out, at, b" turns\n")
 }
 
 // How many turns a thread has had.
+#[tactic(auto, unfolding(isa::specs::Text::bytes))]
 fn put_turns(out: &mut [u8], at: usize, turns: u32) -> usize
     ensures { wrote result out.new ≡ puts_all (wrote at out.old) (turns_parts turns) }
 {
@@ -104,34 +102,27 @@ fn put_turns(out: &mut [u8], at: usize, turns: u32) -> usize
 }
 
 // The line of a thread; none where it is off.
-pub fn put_line(
-    out: &mut [u8],
-    at: usize,
-    thread: u32,
-    status: Status,
-    pc: u32,
-    turns: u32,
-) -> usize
-    ensures { wrote result out.new ≡ puts_all (wrote at out.old) (line_parts thread status pc turns) }
+#[tactic(auto, unfolding(crate::specs::Lines::line_parts, isa::specs::Text::bytes))]
+pub fn put_line(out: &mut [u8], at: usize, thread: u32, entry: Thread, pc: u32) -> usize
+    ensures { wrote result out.new ≡ puts_all (wrote at out.old) (line_parts thread entry.status pc entry.turns) }
 {
-    let off = is_idle(status);
-    if off {
+    if is_idle(entry.status) {
         return at;
     }
     let at = put_text(out, at, b"thread ");
     let at = put_decimal(out, at, thread);
-    let at = put_state(out, at, status, pc);
-    put_turns(out, at, turns)
+    let at = put_state(out, at, entry.status, pc);
+    put_turns(out, at, entry.turns)
 }
 
 // The number of a thread that is off; nothing where it is on.
+#[tactic(auto, unfolding(crate::specs::Lines::off_part, isa::specs::Text::bytes))]
 pub fn put_off(out: &mut [u8], at: usize, thread: u32, status: Status) -> usize
     ensures { wrote result out.new ≡ puts_all (wrote at out.old) (off_part thread status) }
 {
-    let off = is_idle(status);
-    if off {
-        let at = put_text(out, at, b" ");
-        return put_decimal(out, at, thread);
+    if !is_idle(status) {
+        return at;
     }
-    at
+    let at = put_text(out, at, b" ");
+    put_decimal(out, at, thread)
 }

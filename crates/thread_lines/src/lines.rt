@@ -11,38 +11,33 @@ use machine::{Machine, PROGRAM_COUNTER};
 use text::put_text;
 
 // The lines of the threads that are on.
+#[tactic(auto, unfolding(crate::specs::Lines::lines_parts))]
 fn put_lines(out: &mut [u8], at: usize, machine: Machine, registers: &[u32]) -> usize
     requires { length registers.now ≡ register_words }
     ensures { wrote result out.new ≡ puts_all (wrote at out.old) (lines_parts machine registers.now 8) }
 {
     let mut next = at;
-    let mut thread: usize = 0;
-    while thread < 8 {
-        let entry = machine.threads[thread];
-        let status = entry.status;
+    for (thread, entry) in machine.threads.iter().enumerate() {
         let pc = registers[64 * thread + PROGRAM_COUNTER as usize];
-        next = put_line(out, next, thread as u32, status, pc, entry.turns);
-        thread += 1;
+        next = put_line(out, next, thread as u32, *entry, pc);
     }
     next
 }
 
 // The numbers of the threads that are off.
+#[tactic(auto, unfolding(crate::specs::Lines::off_parts))]
 fn put_numbers(out: &mut [u8], at: usize, machine: Machine) -> usize
     ensures { wrote result out.new ≡ puts_all (wrote at out.old) (off_parts machine 8) }
 {
     let mut next = at;
-    let mut thread: usize = 0;
-    while thread < 8 {
-        let entry = machine.threads[thread];
-        let status = entry.status;
-        next = put_off(out, next, thread as u32, status);
-        thread += 1;
+    for (thread, entry) in machine.threads.iter().enumerate() {
+        next = put_off(out, next, thread as u32, entry.status);
     }
     next
 }
 
 // The line of the threads that are off, unless all are on.
+#[tactic(auto, unfolding(crate::specs::Lines::off_line, isa::specs::Text::bytes))]
 fn put_off_line(out: &mut [u8], at: usize, machine: Machine) -> usize
     ensures { wrote result out.new ≡ puts_all (wrote at out.old) (off_line machine) }
 {
