@@ -1,6 +1,6 @@
 -- How the word of six numbers is found: the one with them in its fields, if it is read as an instruction and the numbers are its own.
 use Prim.Native.Nat.{ℕ, ◌^◌, ◌<◌}
-use mathlib.Core.Bool.{Bool, true, false, cond}
+use mathlib.Core.Bool.{Bool, true, false, cond, ◌&&◌}
 use mathlib.Core.List.{List, [], ◌∷◌}
 use mathlib.Core.Option.{Option, none, some}
 use mathlib.Core.Path.{◌≡◌, refl, ap, sym, ◌∙◌}
@@ -24,6 +24,21 @@ use Rattle.fields.specs.Find.{Held, held, beside, written, word_for}
 use Rattle.fields.specs.Instructions.{instruction_of}
 use Rattle.fields.specs.Numbers.{same_numbers, reduced, filled, numbers_of, word_of}
 use Rattle.fields.specs.Types.{Numbers, Instruction, R, I, Movei, J, C, M}
+
+-- the derived equality of numbers is that of the definition
+regroup : (a b c d e f : Bool) → (a && (b && (c && (d && (e && f))))) ≡ (a && b && c && d && e && f)
+regroup false b c d e f = refl
+regroup true false c d e f = refl
+regroup true true false d e f = refl
+regroup true true true false e f = refl
+regroup true true true true false f = refl
+regroup true true true true true f = refl
+
+pub equal-numbers : (a b : Numbers) →
+    (eqb a.format b.format && (eqb a.opcode b.opcode && (eqb a.flags b.flags
+    && (eqb a.first b.first && (eqb a.second b.second && eqb a.third b.third))))) ≡ same_numbers a b
+unfolding same_numbers
+equal-numbers a b = regroup (eqb a.format b.format) (eqb a.opcode b.opcode) (eqb a.flags b.flags) (eqb a.first b.first) (eqb a.second b.second) (eqb a.third b.third)
 
 abbrev pub matched : Numbers → ℕ → Answer Instruction → Answer Held
 matched n w (given i) = cond (same_numbers (numbers_of w) n) (given (held w i)) (refused no_word)

@@ -1,10 +1,11 @@
 -- The word of six numbers, where they have one.
 use Rattle.std.specs.Prelude.{ℕ}
+use Rattle.std.specs.Prelude as code
 use Rattle.std.proofs.Math.Option.{Option, none, some}
 use Rattle.answer.specs.Answer.{Answer, given, refused, no_word}
 use Rattle.isa.specs.Write.{write}
 use Rattle.fields.specs.Instructions.{instruction_of}
-use Rattle.fields.specs.Types.{Numbers, Found, Word, NoWord, Instruction}
+use Rattle.fields.specs.Types.{Numbers, Found, Instruction}
 
 -- a word, and the instruction whose word it is
 pub record Held : Type 0 where
@@ -15,9 +16,9 @@ abbrev pub held : ℕ → Instruction → Held
 held word instruction = record { word = word; instruction = instruction }
 
 -- the cases of the code's answer
-abbrev pub found : Found → Answer Held
-found (Word w i) = given (held w i)
-found NoWord = refused no_word
+abbrev pub found : code.Option Found → Answer Held
+found (code.Some f) = given (held f.word f.instruction)
+found code.None = refused no_word
 
 -- what an instruction is written as, beside it
 abbrev pub beside : Instruction → Answer ℕ → Answer Held

@@ -1,10 +1,10 @@
 // Words taken apart into numbers, and put together from them.
 ghost use Rattle.std.specs.Prelude.{◌+◌, ◌*◌, ◌<◌, ◌≤◌, ◌≡◌};
 ghost use Rattle.fields.specs.Find.{found, word_for};
-ghost use Rattle.fields.specs.Numbers.{numbers, same_numbers, immediate_of, numbers_of, word_of};
+ghost use Rattle.fields.specs.Numbers.{numbers, immediate_of, numbers_of, word_of};
 
 use crate::numbers::{Found, Numbers};
-use isa::{MoveiOp, Reading};
+use isa::MoveiOp;
 use word_layout::{PREFIX_C, PREFIX_I, PREFIX_J, PREFIX_M, PREFIX_MOVEI, PREFIX_R};
 
 fn numbers_as(format: u32, opcode: u32, flags: u32, first: u32, second: u32, third: u32) -> Numbers
@@ -70,80 +70,51 @@ fn place(format: u32, opcode: u32, first: u32, rest: u32) -> u32
 }
 
 // The word with these numbers in its fields, each modulo what its field has room for; 0, which is undefined, where no format has the number.
+#[tactic(auto, unfolding(crate::specs::Numbers::word_of))]
 fn pack(n: Numbers) -> u32
     ensures { result ≡ word_of n }
 {
-    let format = n.format;
-    let opcode = n.opcode;
-    let flags = n.flags;
+    let Numbers {
+        opcode,
+        flags,
+        second,
+        third,
+        ..
+    } = n;
     let first = n.first % 64;
-    let second = n.second;
-    let third = n.third;
     let register = second % 64 * 0x1000;
     let short = third % 512 * 8;
-    if format == 0 {
-        return place(
+    match n.format {
+        0 => place(
             PREFIX_R * 0x40000000,
             opcode % 64,
             first,
             register + third % 64 * 0x40 + flags % 8 * 2,
-        );
-    }
-    if format == 1 {
-        return place(
+        ),
+        1 => place(
             PREFIX_I * 0x20000000,
             opcode % 32,
             first,
             register + short + flags % 4 * 2,
-        );
-    }
-    if format == 2 {
-        return place(
+        ),
+        2 => place(
             PREFIX_MOVEI * 0x8000000,
             opcode % 8,
             first,
             second % 65536 * 4 + flags % 2 * 2,
-        );
+        ),
+        3 => place(PREFIX_J * 0x8000000, opcode % 8, first, second % 0x40000),
+        4 => place(PREFIX_C * 0x8000000, opcode % 8, first, register),
+        5 => place(PREFIX_M * 0x40000000, opcode % 64, first, register + short),
+        _ => 0,
     }
-    if format == 3 {
-        return place(PREFIX_J * 0x8000000, opcode % 8, first, second % 0x40000);
-    }
-    if format == 4 {
-        return place(PREFIX_C * 0x8000000, opcode % 8, first, register);
-    }
-    if format == 5 {
-        return place(PREFIX_M * 0x40000000, opcode % 64, first, register + short);
-    }
-    0
-}
-
-fn same_numbers(a: Numbers, b: Numbers) -> bool
-    ensures { result ≡ same_numbers a b }
-{
-    (a.format == b.format)
-        & (a.opcode == b.opcode)
-        & (a.flags == b.flags)
-        & (a.first == b.first)
-        & (a.second == b.second)
-        & (a.third == b.third)
 }
 
 // The word whose numbers these are, where it is read as an instruction.
-pub fn find(n: Numbers) -> Found
+pub fn find(n: Numbers) -> Option<Found>
     ensures { found result ≡ word_for n }
 {
     let word = pack(n);
-    let own = same_numbers(unpack(word), n);
-    let reading = isa::read_word(word);
-    match reading {
-        Reading::Defined(instruction) => {
-            if own {
-                Found::Word { word, instruction }
-            } else {
-                Found::NoWord
-            }
-        }
-        Reading::Undefined => Found::NoWord,
-        Reading::NotFitted => Found::NoWord,
-    }
+    let instruction = isa::read_word(word).ok()?;
+    (unpack(word) == n).then_some(Found { word, instruction })
 }

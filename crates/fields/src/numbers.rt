@@ -2,7 +2,7 @@
 use isa::Instruction;
 
 // The format, the opcode in it, the vector flags, and the fields in the order of the word; 0 where there is none.
-#[derive(Clone, Copy)]
+#[derive(Clone, Copy, Debug, PartialEq, Eq)]
 pub struct Numbers {
     pub format: u32,
     pub opcode: u32,
@@ -13,8 +13,8 @@ pub struct Numbers {
 }
 
 // The word whose numbers they are, and the instruction that it is read as.
-#[derive(Clone, Copy)]
-pub enum Found {
-    Word { word: u32, instruction: Instruction },
-    NoWord,
+#[derive(Clone, Copy, Debug, PartialEq, Eq)]
+pub struct Found {
+    pub word: u32,
+    pub instruction: Instruction,
 }
