@@ -5,15 +5,15 @@ ghost use Rattle.names.specs.Rows.{rows, named};
 
 use isa::Instruction;
 
-// A name: its bytes from the front, then zeros.
-#[derive(Clone, Copy)]
+// A name: its bytes from the front, then zeros. Not a `&str`: I's names are made here with a letter more, and the library has no heap.
+#[derive(Clone, Copy, Debug, PartialEq, Eq)]
 pub struct Name {
     pub bytes: [u8; 16],
     pub len: usize,
 }
 
 // A row of the table: the number of the format, the opcode, and the name's length and bytes.
-#[derive(Clone, Copy)]
+#[derive(Clone, Copy, Debug, PartialEq, Eq)]
 pub struct NameRow(pub u8, pub u8, pub usize, pub [u8; 16]);
 
 // How many rows there are.
@@ -95,19 +95,14 @@ pub fn table() -> [NameRow; COUNT]
     ROWS
 }
 
-// The name in the row of a format and an opcode.
+// The name in the row of a format and an opcode; none where there is no such row.
 fn find(format: u8, opcode: u8) -> Name
     ensures { result ≡ named rows format opcode }
 {
-    let rows = table();
-    let mut k = 0;
-    while k < COUNT {
-        let row = rows[k];
-        if (format == row.0) & (opcode == row.1) {
-            let bytes = row.3;
-            return Name { bytes, len: row.2 };
+    for NameRow(f, o, len, bytes) in table() {
+        if (format == f) & (opcode == o) {
+            return Name { bytes, len };
         }
-        k += 1;
     }
     Name {
         bytes: [0; 16],
@@ -120,10 +115,12 @@ fn extend(name: Name, letter: u8) -> Name
     requires { name.len < 16 }
     ensures { result ≡ extended name letter }
 {
-    let at = name.len;
-    let mut bytes = name.bytes;
-    bytes[at] = letter;
-    Name { bytes, len: at + 1 }
+    let Name { mut bytes, len } = name;
+    bytes[len] = letter;
+    Name {
+        bytes,
+        len: len + 1,
+    }
 }
 
 // The name of an instruction, whether or not it has a word.
@@ -132,41 +129,11 @@ pub fn name_of(i: Instruction) -> Name
 {
     let opcode = isa::opcode_of(i);
     match i {
-        Instruction::R {
-            op: _,
-            flags: _,
-            d: _,
-            a: _,
-            b: _,
-        } => find(0, opcode),
-        Instruction::I {
-            op: _,
-            flags: _,
-            d: _,
-            a: _,
-            immediate: _,
-        } => extend(find(0, opcode), b'i'),
-        Instruction::Movei {
-            op: _,
-            flag: _,
-            d: _,
-            immediate: _,
-        } => find(2, opcode),
-        Instruction::J {
-            op: _,
-            register: _,
-            offset: _,
-        } => find(3, opcode),
-        Instruction::C {
-            op: _,
-            first: _,
-            second: _,
-        } => find(4, opcode),
-        Instruction::M {
-            op: _,
-            register: _,
-            base: _,
-            offset: _,
-        } => find(5, opcode),
+        Instruction::R { .. } => find(0, opcode),
+        Instruction::I { .. } => extend(find(0, opcode), b'i'),
+        Instruction::Movei { .. } => find(2, opcode),
+        Instruction::J { .. } => find(3, opcode),
+        Instruction::C { .. } => find(4, opcode),
+        Instruction::M { .. } => find(5, opcode),
     }
 }

@@ -10,20 +10,23 @@ use Rattle.names.specs.Rows.{rows, named}
 use Rattle.names.specs.declared.name.NameRow.{NameRow}
 use Rattle.names.proofs.name.find.Goals as goal
 
-pub returns-then-format-row : goal.returns-then-format-row
+pub loop-f-init : goal.loop-f-init
+loop-f-init c = refl
+
+pub returns-then-format-f : goal.returns-then-format-f
 unfolding rows
-returns-then-format-row c =
+returns-then-format-f c =
     let x = c.args in
-    let e = c.table-rows.ensures in
-    let h : c.loop-k.k < length c.table-rows.result = rw e c.loop-k-test.true in
-    sym (c.loop-k.invariant ∙ here c.table-rows.result _ _ c.loop-k.k h c.if-format-row.true)
+    let e = c.table-f-items.ensures in
+    let h : c.loop-f.f-index < length c.table-f-items.result = rw e c.loop-f-test.true in
+    sym (c.loop-f.invariant ∙ here c.table-f-items.result _ _ c.loop-f.f-index h c.if-format-f.true)
     ∙ ap (λ (l : List NameRow). named l x.format x.opcode) e
 
-pub loop-k-preserved : goal.loop-k-preserved
+pub loop-f-preserved : goal.loop-f-preserved
 unfolding rows
-loop-k-preserved c =
-    let h : c.loop-k.k < length c.table-rows.result = rw c.table-rows.ensures c.loop-k-test.true in
-    c.loop-k.invariant ∙ rw (add-one c.loop-k.k) (behind c.table-rows.result _ _ c.loop-k.k h c.if-format-row.false)
+loop-f-preserved c =
+    let h : c.loop-f.f-index < length c.table-f-items.result = rw c.table-f-items.ensures c.loop-f-test.true in
+    c.loop-f.invariant ∙ rw (add-one c.loop-f.f-index) (behind c.table-f-items.result _ _ c.loop-f.f-index h c.if-format-f.false)
 
 -- no row is left
 none : (l : List NameRow) (f o k : ℕ) → length l ≤ k → spelled [] ≡ named (drop k l) f o
@@ -34,10 +37,7 @@ pub returns : goal.returns
 unfolding rows
 returns c =
     let x = c.args in
-    let e = c.table-rows.ensures in
-    let h : length c.table-rows.result ≤ c.loop-k.k = rw e c.loop-k-test.false in
-    none c.table-rows.result x.format x.opcode c.loop-k.k h
-    ∙ sym c.loop-k.invariant ∙ ap (λ (l : List NameRow). named l x.format x.opcode) e
-
-pub loop-k-init : goal.loop-k-init
-loop-k-init c = refl
+    let e = c.table-f-items.ensures in
+    let h : length c.table-f-items.result ≤ c.loop-f.f-index = rw e c.loop-f-test.false in
+    none c.table-f-items.result x.format x.opcode c.loop-f.f-index h
+    ∙ sym c.loop-f.invariant ∙ ap (λ (l : List NameRow). named l x.format x.opcode) e
