@@ -1,4 +1,5 @@
 -- Laws that belong to no one function.
+pub mod Tokens
 pub mod Steps
 pub mod Places
 pub mod Values

@@ -7,65 +7,37 @@ ghost use Rattle.expression.specs.Reading.{signed, SignAdvances, lead_of};
 use crate::value::Sign;
 use token::{Token, token_at};
 
-// A sign and the place behind it.
-#[derive(Clone, Copy)]
-pub enum SignAt {
-    At(Sign, usize),
-    NoSign,
-}
-
-#[derive(Clone, Copy)]
-pub struct Lead {
-    pub sign: Sign,
-    pub next: usize,
-}
-
-// The sign from a place on.
-pub fn sign_at(line: &[u8], at: usize) -> SignAt
+// The sign from a place on, and the place behind it.
+pub fn sign_at(line: &[u8], at: usize) -> Option<(Sign, usize)>
     ensures sign { signed line.now result ≡ sign_at (tokens (drop at line.now)) }
     ensures onward { SignAdvances at (length line.now) result }
 {
-    let t = token_at(line, at);
-    match t {
-        Token::End => SignAt::NoSign,
-        Token::Word(_, _) => SignAt::NoSign,
+    match token_at(line, at) {
+        Token::End | Token::Word(..) => None,
         Token::Mark(c, next) => {
-            if c == 43 {
-                return SignAt::At(Sign::Plus, next);
+            if c == b'+' {
+                Some((Sign::Plus, next))
+            } else if c == b'-' {
+                Some((Sign::Minus, next))
+            } else {
+                None
             }
-            if c == 45 {
-                return SignAt::At(Sign::Minus, next);
-            }
-            SignAt::NoSign
         }
     }
 }
 
-// The minus that may lead a sum.
-pub fn lead_at(line: &[u8], at: usize) -> Lead
+// The minus that may lead a sum, or else a plus, and the place behind it.
+pub fn lead_at(line: &[u8], at: usize) -> (Sign, usize)
     ensures lead { lead_of line.now result ≡ lead_at (tokens (drop at line.now)) }
-    ensures onward { at ≤ result.next }
+    ensures onward { at ≤ result.1 }
 {
-    let t = token_at(line, at);
-    match t {
-        Token::End => Lead {
-            sign: Sign::Plus,
-            next: at,
-        },
-        Token::Word(_, _) => Lead {
-            sign: Sign::Plus,
-            next: at,
-        },
+    match token_at(line, at) {
+        Token::End | Token::Word(..) => (Sign::Plus, at),
         Token::Mark(c, next) => {
-            if c == 45 {
-                return Lead {
-                    sign: Sign::Minus,
-                    next,
-                };
-            }
-            Lead {
-                sign: Sign::Plus,
-                next: at,
+            if c == b'-' {
+                (Sign::Minus, next)
+            } else {
+                (Sign::Plus, at)
             }
         }
     }

@@ -5,32 +5,34 @@ ghost use Rattle.expression.specs.Value.{plus as Value·plus};
 ghost use Rattle.expression.specs.Reading.{InRange};
 ghost use Rattle.expression.specs.Types.{Known};
 
-#[derive(Clone, Copy)]
+#[derive(Clone, Copy, Debug, PartialEq, Eq)]
 pub enum Sign {
     Plus,
     Minus,
 }
 
 // A number with 2^32 added to it; or one that is too large or stands too deep; or one with a label that is not known.
-#[derive(Clone, Copy)]
+// Its own enum, and no Result: a sum goes on behind a value that is too large, since a label that is not known counts before it.
+#[derive(Clone, Copy, Debug, PartialEq, Eq)]
 pub enum Value {
     Known(u64),
     TooLarge,
     Unknown,
 }
 
+// What 0 is held as.
+pub const ZERO: u64 = 0x100000000;
+
 // The value, if it is within plus or minus 2^31.
+#[tactic(auto, unfolding(crate::specs::Value::bounded))]
 pub fn bound(n: u64) -> Value
     ensures value { result ≡ bounded n }
     ensures held { InRange result }
 {
-    if n < 0x80000000 {
-        return Value::TooLarge;
+    match n {
+        0x80000000..=0x180000000 => Value::Known(n),
+        _ => Value::TooLarge,
     }
-    if 0x180000000 < n {
-        return Value::TooLarge;
-    }
-    Value::Known(n)
 }
 
 fn add(a: u64, sign: Sign, b: u64) -> Value
@@ -39,8 +41,8 @@ fn add(a: u64, sign: Sign, b: u64) -> Value
     ensures held { InRange result }
 {
     match sign {
-        Sign::Plus => bound(a + b - 0x100000000),
-        Sign::Minus => bound(a + 0x100000000 - b),
+        Sign::Plus => bound(a + b - ZERO),
+        Sign::Minus => bound(a + ZERO - b),
     }
 }
 
@@ -50,18 +52,10 @@ pub fn plus(sum: Value, sign: Sign, term: Value) -> Value
     ensures value { result ≡ Value·plus sum sign term }
     ensures held { InRange result }
 {
-    match sum {
-        Value::Unknown => Value::Unknown,
-        Value::TooLarge => match term {
-            Value::Known(_) => Value::TooLarge,
-            Value::TooLarge => Value::TooLarge,
-            Value::Unknown => Value::Unknown,
-        },
-        Value::Known(a) => match term {
-            Value::Known(b) => add(a, sign, b),
-            Value::TooLarge => Value::TooLarge,
-            Value::Unknown => Value::Unknown,
-        },
+    match (sum, term) {
+        (Value::Known(a), Value::Known(b)) => add(a, sign, b),
+        (Value::Unknown, _) | (_, Value::Unknown) => Value::Unknown,
+        _ => Value::TooLarge,
     }
 }
 
@@ -71,13 +65,8 @@ pub fn nest(depth: u32, inside: Value) -> Value
     ensures value { result ≡ nested depth inside }
     ensures held { InRange result }
 {
-    if depth == 0 {
-        match inside {
-            Value::Known(_) => Value::TooLarge,
-            Value::TooLarge => Value::TooLarge,
-            Value::Unknown => Value::Unknown,
-        }
-    } else {
-        inside
+    match inside {
+        Value::Known(_) if depth == 0 => Value::TooLarge,
+        _ => inside,
     }
 }

@@ -1,67 +1,45 @@
 // Words as terms: numbers and labels.
 ghost use Rattle.std.specs.Prelude.{◌+◌, ◌≤◌, ◌≡◌, length, drop};
-ghost use Rattle.std.proofs.Math.Seq.{slice};
 ghost use Rattle.token.specs.Token.{leading_word};
 ghost use Rattle.expression.specs.Grammar.{word_term};
 ghost use Rattle.expression.specs.Label.{address_in, same};
 ghost use Rattle.expression.specs.Reading.{term_valued, term_value_of, TermInRange, InRange};
 ghost use Rattle.expression.specs.Value.{value_term, label_value, bounded, bias};
 
-use crate::value::{Value, bound};
-use token::{Number, is_label, number_of, past_run};
+use crate::value::{Value, ZERO, bound};
+use token::{is_label, number_of, past_run};
 
-#[derive(Clone, Copy)]
-pub enum TermValue {
-    Is(Value),
-    NoTerm,
-}
-
-// Whether a word is the one that stands in the source from a place on.
-fn same_bytes(source: &[u8], place: usize, line: &[u8], start: usize, stop: usize) -> bool
-    requires { (stop ≤ length line.now) × (start ≤ stop) }
-    ensures { result ≡ same (leading_word (drop place source.now)) (slice start stop line.now) }
+// The word that stands in a text from a place on.
+fn word_from(text: &[u8], place: usize) -> &[u8]
+    ensures { result.now ≡ leading_word (drop place text.now) }
 {
-    let end = past_run(source, place);
-    if end - place != stop - start {
-        return false;
+    if text.len() < place {
+        return &text[..0];
     }
-    let mut i = 0;
-    while i < stop - start {
-        if source[place + i] != line[start + i] {
-            return false;
-        }
-        i += 1;
-    }
-    true
+    &text[place..past_run(text, place)]
 }
 
-// The same, with a look at the first byte before the others: most words end there.
-fn same_word(source: &[u8], place: usize, line: &[u8], start: usize, stop: usize) -> bool
-    requires { (stop ≤ length line.now) × (start ≤ stop) }
-    ensures { result ≡ same (leading_word (drop place source.now)) (slice start stop line.now) }
+// Whether a word is the one that stands in the source from a place on. The first byte is looked at before the others: most words end there.
+fn same_word(source: &[u8], place: usize, word: &[u8]) -> bool
+    ensures { result ≡ same (leading_word (drop place source.now)) word.now }
 {
-    if place < source.len() {
-        if start < stop {
-            if source[place] != line[start] {
-                return false;
-            }
-        }
+    match (source.get(place), word.first()) {
+        (Some(a), Some(b)) if a != b => false,
+        _ => word_from(source, place) == word,
     }
-    same_bytes(source, place, line, start, stop)
 }
 
-// The value of a label.
-fn label_at(source: &[u8], labels: &[u32], line: &[u8], start: usize, stop: usize) -> Value
-    requires { (stop ≤ length line.now) × (start ≤ stop) }
-    ensures value { result ≡ label_value (address_in source.now labels.now (slice start stop line.now)) }
+// The value of the label that a word is, among the places and addresses of labels.
+pub fn value_of_label(source: &[u8], labels: &[u32], word: &[u8]) -> Value
+    ensures value { result ≡ label_value (address_in source.now labels.now word.now) }
     ensures held { InRange result }
 {
-    let mut k = 0;
-    while k + 1 < labels.len() {
-        if same_word(source, labels[k] as usize, line, start, stop) {
-            return bound_up(labels[k + 1] as usize);
+    let mut rest = labels;
+    while let [place, address, others @ ..] = rest {
+        if same_word(source, *place as usize, word) {
+            return bound_up(*address as usize);
         }
-        k += 2;
+        rest = others;
     }
     Value::Unknown
 }
@@ -74,31 +52,19 @@ fn bound_up(n: usize) -> Value
     if 0x80000000 < n {
         return Value::TooLarge;
     }
-    bound(0x100000000 + n as u64)
+    bound(ZERO + n as u64)
 }
 
 // A word as a term.
-pub fn word_term(source: &[u8], labels: &[u32], word: &[u8]) -> TermValue
+pub fn word_term(source: &[u8], labels: &[u32], word: &[u8]) -> Option<Value>
     ensures value { term_valued result
         ≡ term_value_of (value_term (address_in source.now labels.now) 0)
         (word_term word.now) }
     ensures held { TermInRange result }
 {
-    let number = number_of(word);
-    match number {
-        Number::Is(n) => TermValue::Is(bound_up(n as usize)),
-        Number::NoNumber => {
-            if is_label(word) {
-                return TermValue::Is(value_of_label(source, labels, word));
-            }
-            TermValue::NoTerm
-        }
+    match number_of(word) {
+        Some(n) => Some(bound_up(n as usize)),
+        None if is_label(word) => Some(value_of_label(source, labels, word)),
+        None => None,
     }
-}
-
-// The value of the label that a word is.
-pub fn value_of_label(source: &[u8], labels: &[u32], word: &[u8]) -> Value
-    ensures { result ≡ label_value (address_in source.now labels.now word.now) }
-{
-    label_at(source, labels, word, 0, word.len())
 }

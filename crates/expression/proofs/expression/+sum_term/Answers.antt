@@ -6,22 +6,22 @@ use Rattle.expression.proofs.Places.{deeper, ahead-from, further}
 use Rattle.expression.proofs.Steps.{sum-stops, sum-ends, sum-goes-on, term-ends, term-word, term-mark, term-group}
 use Rattle.expression.proofs.expression.+sum_term.Goals as goal
 
-pub sum-returns-in-Malformed-clause-read : goal.sum-returns-in-Malformed-clause-read
-sum-returns-in-Malformed-clause-read t c =
+pub sum-returns-in_err-value-clause-read : goal.sum-returns-in_err-value-clause-read
+sum-returns-in_err-value-clause-read t c =
     let a = c.args in
-    sum-stops a.line.now a.source.now a.labels.now a.at a.depth a.running a.sign c.in-Malformed.ensures.read
+    rw c.from_residual.ensures (sum-stops a.line.now a.source.now a.labels.now a.at a.depth a.running a.sign c.in_err-value.ensures.read)
 
-pub sum-returns-in-NoSign-clause-read : goal.sum-returns-in-NoSign-clause-read
-sum-returns-in-NoSign-clause-read t c =
+pub sum-returns-in-None-clause-read : goal.sum-returns-in-None-clause-read
+sum-returns-in-None-clause-read t c =
     let a = c.args in
-    let f = c.in-Read in
-    rw c.plus-now.ensures.value (sum-ends a.line.now a.source.now a.labels.now a.at a.depth a.running a.sign f.value f.next f.ensures.read c.in-NoSign.ensures.sign)
+    let f = c.in_ok-value in
+    rw c.plus-now.ensures.value (sum-ends a.line.now a.source.now a.labels.now a.at a.depth a.running a.sign f.value f.next f.ensures.read c.in-None.ensures.sign)
 
-pub sum-returns-in-At-clause-read : goal.sum-returns-in-At-clause-read
-sum-returns-in-At-clause-read t c =
+pub sum-returns-in-Some-clause-read : goal.sum-returns-in-Some-clause-read
+sum-returns-in-Some-clause-read t c =
     let a = c.args in
-    let f = c.in-Read in
-    let g = c.in-At in
+    let f = c.in_ok-value in
+    let g = c.in-Some in
     sum-goes-on a.line.now a.source.now a.labels.now a.at a.depth a.running a.sign g.sign f.value f.next g.after c.sum.result (omega (arith, f.ensures.ahead, g.ensures.onward)) g.ensures.onward.1 f.ensures.read g.ensures.sign (rw c.plus-now.ensures.value at c.sum.ensures.read)
 
 pub term-word_at-requires : goal.term-word_at-requires
@@ -38,7 +38,7 @@ pub term-sum-inside-requires : goal.term-sum-inside-requires
 term-sum-inside-requires t c =
     let a = c.args in
     let fwd = (token-read _ _ _ c.in-Mark.ensures).1.0 in
-    (deeper (length a.line.now) a.at c.in-Mark.next c.lead_at-lead.result.next t c.decreases fwd.0 fwd.1 c.lead_at-lead.ensures.onward, (omega arith, omega arith))
+    (deeper (length a.line.now) a.at c.in-Mark.next c.lead_at-sign.result.1 t c.decreases fwd.0 fwd.1 c.lead_at-sign.ensures.onward, (omega arith, omega arith))
 
 pub term-returns-in-End-clause-read : goal.term-returns-in-End-clause-read
 term-returns-in-End-clause-read t c =
@@ -60,12 +60,12 @@ term-returns-else-c-ne40-clause-read t c =
     let a = c.args in
     let f = c.in-Mark in
     let read = token-read _ _ _ f.ensures in
-    let l = c.lead_at-lead in
-    term-group a.line.now a.source.now a.labels.now a.at a.depth f.c f.next l.result.next l.result.sign c.sum-inside.result c.close.result read.1.0.0 l.ensures.onward read.1.0.1 read.0 (eq-eqb _ 40 c.if-c-ne40.false) l.ensures.lead (rw c.less.ensures at c.sum-inside.ensures.read) c.close.ensures.read
+    let l = c.lead_at-sign in
+    term-group a.line.now a.source.now a.labels.now a.at a.depth f.c f.next l.result.1 l.result.0 c.sum-inside.result c.close.result read.1.0.0 l.ensures.onward read.1.0.1 read.0 (eq-eqb _ 40 c.if-c-ne40.false) l.ensures.lead (rw c.saturating_sub-left.ensures at c.sum-inside.ensures.read) c.close.ensures.read
 
 pub term-returns-else-c-ne40-clause-ahead : goal.term-returns-else-c-ne40-clause-ahead
 term-returns-else-c-ne40-clause-ahead t c =
     let a = c.args in
-    let l = c.lead_at-lead in
+    let l = c.lead_at-sign in
     let fwd = (token-read _ _ _ c.in-Mark.ensures).1.0 in
-    further a.at l.result.next (length a.line.now) c.sum-inside.result c.close.result (omega (arith, l.ensures.onward)) c.sum-inside.ensures.ahead c.close.ensures.ahead
+    further a.at l.result.1 (length a.line.now) c.sum-inside.result c.close.result (omega (arith, l.ensures.onward)) c.sum-inside.ensures.ahead c.close.ensures.ahead

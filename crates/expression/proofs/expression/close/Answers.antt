@@ -1,26 +1,13 @@
 use Rattle.token.proofs.Tokens.{place_read}
-use native.Mathlib.Omega.{arith}
 use Rattle.expression.proofs.expression.close.Goals as goal
 
-pub nest-requires : goal.nest-requires
-nest-requires c = rw c.in-Read.is at c.requires
+pub returns-in_err-next-clause-read : goal.returns-in_err-next-clause-read
+returns-in_err-next-clause-read c = rw (c.from_residual-in_err-next.ensures, c.in_ok-value.was, ← (place_read _ _ _ _ c.in_err-next.ensures).0)
 
-pub returns-in-Malformed : goal.returns-in-Malformed
-returns-in-Malformed c = record {
-  read = rw c.in-Malformed.is;
-  ahead = rw c.in-Malformed.is;
-}
+pub returns-clause-read : goal.returns-clause-read
+returns-clause-read c = rw (c.in_ok-value.was, ← (place_read _ _ _ _ c.in_ok-next.ensures).0, c.nest.ensures.value)
 
-pub returns-in-At : goal.returns-in-At
-returns-in-At c =
-    let place = rw c.in-At.is at (place_read _ _ _ _ c.past_mark-place.ensures).1 in
-    record {
-      read = rw (c.in-Read.is, ← (place_read _ _ _ _ c.past_mark-place.ensures).0, c.in-At.is, c.nest.ensures.value);
-      ahead = rw c.in-Read.is (place.0, place.1, c.nest.ensures.held);
-    }
-
-pub returns-in-NoPlace : goal.returns-in-NoPlace
-returns-in-NoPlace c = record {
-  read = rw (c.in-Read.is, ← (place_read _ _ _ _ c.past_mark-place.ensures).0, c.in-NoPlace.is);
-  ahead = rw c.in-Read.is (omega arith);
-}
+pub returns-clause-ahead : goal.returns-clause-ahead
+returns-clause-ahead c =
+    let place = (place_read _ _ _ _ c.in_ok-next.ensures).1 in
+    rw c.in_ok-value.was (place.0, place.1, c.nest.ensures.held)

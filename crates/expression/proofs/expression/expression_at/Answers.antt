@@ -4,6 +4,6 @@ use Rattle.expression.proofs.expression.expression_at.Goals as goal
 pub returns : goal.returns
 returns c =
     let a = c.args in
-    let l = c.lead_at-lead in
-    expression-read a.line.now a.source.now a.labels.now a.at l.result.next l.result.sign c.sum.result
+    let l = c.lead_at-sign in
+    expression-read a.line.now a.source.now a.labels.now a.at l.result.1 l.result.0 c.sum.result
     l.ensures.lead c.sum.ensures.read

@@ -1,31 +1,20 @@
 -- `word_term` meets its contract: a number, a label, or no term.
-use mathlib.Core.Path.{sym, ◌∙◌}
-use native.Mathlib.Omega.{arith}
+use Rattle.std.proofs.Common.{sym}
 use Rattle.expression.specs.Label.{address_in}
-use Rattle.expression.proofs.Values.{label-in-range}
 use Rattle.expression.proofs.Words.{a-number, a-label, no-term}
 use Rattle.expression.proofs.word.word_term.Goals as goal
 
-pub returns-then-is_label : goal.returns-then-is_label
-returns-then-is_label c =
+pub returns-in-Some-clause-value : goal.returns-in-Some-clause-value
+returns-in-Some-clause-value c =
     let a = c.args in
-    record {
-      value = a-label (address_in a.source.now a.labels.now) a.word.now c.value_of_label.result (rw c.in-NoNumber.is at c.number_of-number.ensures) (sym c.is_label.ensures ∙ c.if-is_label.true) c.value_of_label.ensures;
-      held = rw c.value_of_label.ensures (label-in-range (address_in a.source.now a.labels.now a.word.now));
-    }
+    a-number (address_in a.source.now a.labels.now) a.word.now c.in-Some.n c.bound_up.result c.in-Some.ensures c.bound_up.ensures.value
 
-pub returns-in-Is : goal.returns-in-Is
-returns-in-Is c =
+pub returns-in-None-clause-value : goal.returns-in-None-clause-value
+returns-in-None-clause-value c =
     let a = c.args in
-    record {
-      value = a-number (address_in a.source.now a.labels.now) a.word.now c.in-Is.n c.bound_up.result (rw c.in-Is.is at c.number_of-number.ensures) c.bound_up.ensures.value;
-      held = c.bound_up.ensures.held;
-    }
+    a-label (address_in a.source.now a.labels.now) a.word.now c.value_of_label.result c.in-None.ensures (sym c.if-is_label.ensures) c.value_of_label.ensures.value
 
-pub returns-else-is_label : goal.returns-else-is_label
-returns-else-is_label c =
+pub returns-in-None-2-clause-value : goal.returns-in-None-2-clause-value
+returns-in-None-2-clause-value c =
     let a = c.args in
-    record {
-      value = no-term (address_in a.source.now a.labels.now) a.word.now (rw c.in-NoNumber.is at c.number_of-number.ensures) (sym c.is_label.ensures ∙ c.if-is_label.false);
-      held = omega arith;
-    }
+    no-term (address_in a.source.now a.labels.now) a.word.now c.in-None-2.ensures (sym c.if-is_label.ensures)
