@@ -37,6 +37,16 @@ module _ (p : ℕ → Bool) where
   unfolding all_threads from
   all-threads h = from_all 0 8 (λ t a b. h t (omega arith))
 
+  -- what a search for one that fails answers
+  pub all-is : (b : Bool) → (b ≡ true → (t : ℕ) → t < 8 → p t ≡ true) → (((t : ℕ) → t < 8 → p t ≡ true) → b ≡ true) → b ≡ all_threads p
+  all-is b there back = go b (all_threads p) refl refl
+    where
+      go : (c d : Bool) → b ≡ c → all_threads p ≡ d → b ≡ all_threads p
+      go true true e f = e ∙ sym f
+      go false false e f = e ∙ sym f
+      go true false e f = never (all-threads (there e)) f
+      go false true e f = never (back (all-at f)) e
+
 module _ (p : ℕ → Bool) where
   -- one passes unless all fail
   any-all : (xs : List ℕ) → any p xs ≡ not (all (λ x. not (p x)) xs)
@@ -85,6 +95,16 @@ module _ (p : ℕ → Bool) where
   pub some-thread : any_thread p ≡ true → (t : ℕ) × (t < 8) × (p t ≡ true)
   unfolding any_thread from
   some-thread h = any-from 0 8 h
+
+  -- what a search through them answers
+  pub any-is : (b : Bool) → (b ≡ true → (t : ℕ) × (t < 8) × (p t ≡ true)) → ((t : ℕ) × (t < 8) × (p t ≡ true) → b ≡ true) → b ≡ any_thread p
+  any-is b there back = go b (any_thread p) refl refl
+    where
+      go : (c d : Bool) → b ≡ c → any_thread p ≡ d → b ≡ any_thread p
+      go true true e f = e ∙ sym f
+      go false false e f = e ∙ sym f
+      go true false e f = let x = there e in never x.2 (none-at f x.0 x.1)
+      go false true e f = never (back (some-thread f)) e
 
   count-from : (k n : ℕ) → 0 < count p (from k n) → (j : ℕ) × (j < k + n) × (p j ≡ true)
   unfolding count from

@@ -9,20 +9,12 @@ use thread_entry::is_waiting;
 pub fn some_waits(machine: Machine) -> bool
     ensures { result ≡ some_waits machine }
 {
-    for t in 0..8usize {
-        let entry = machine.threads[t];
-        let status = entry.status;
-        if is_waiting(status) {
-            return true;
-        }
-    }
-    false
+    machine.threads.iter().any(|entry| is_waiting(entry.status))
 }
 
 // The record with another thread "last".
-pub fn with_last(mut machine: Machine, last: u8) -> Machine
+pub fn with_last(machine: Machine, last: u8) -> Machine
     ensures { result ≡ with_last machine last }
 {
-    machine.last = last;
-    machine
+    Machine { last, ..machine }
 }

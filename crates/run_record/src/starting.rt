@@ -11,20 +11,20 @@ fn start_status(mask: u8, thread: usize) -> Status
     ensures { result ≡ start_status mask thread }
 {
     if (mask >> thread) % 2 == 0 {
-        return Status::Idle;
+        Status::Idle
+    } else {
+        Status::Running
     }
-    Status::Running
 }
 
 // The record with every number 0.
 pub fn zero() -> Machine
     ensures { result ≡ zeroed }
 {
-    let entry = Thread::new(Status::Idle, 0);
     Machine {
         enabled: 0,
         last: 0,
-        threads: [entry; 8],
+        threads: [Thread::new(Status::Idle, 0); 8],
     }
 }
 
@@ -32,13 +32,13 @@ pub fn zero() -> Machine
 pub fn started(mask: u8) -> Machine
     ensures { result ≡ start mask }
 {
-    let mut machine = zero();
-    machine.enabled = mask;
-    machine.last = 7;
-    for t in 0..8usize {
-        let entry = machine.threads[t];
-        let next = Thread::new(start_status(mask, t), entry.turns);
-        machine.threads[t] = next;
+    let mut machine = Machine {
+        enabled: mask,
+        last: 7,
+        ..zero()
+    };
+    for (t, entry) in machine.threads.iter_mut().enumerate() {
+        entry.status = start_status(mask, t);
     }
     machine
 }

@@ -10,7 +10,7 @@ fn between(machine: Machine, thread: usize) -> u32
     requires { thread < 8 }
     ensures { result ≡ between machine thread }
 {
-    (thread as u32 + 7 - (machine.last % 8) as u32) % 8
+    (thread as u32 + 7 - u32::from(machine.last % 8)) % 8
 }
 
 // Counts of turns after issues in a row that set no status, of which the last is that of the thread so many entries after "last": each
@@ -18,14 +18,10 @@ fn between(machine: Machine, thread: usize) -> u32
 pub fn count_rounds(machine: Machine, mut turns: [u32; 8], passed: u64) -> [u32; 8]
     ensures { result ≡ after_rounds machine passed turns }
 {
-    for thread in 0..8usize {
-        let entry = machine.threads[thread];
-        let status = entry.status;
-        let running = is_running(status);
-        if running {
-            let rounds = passed / 8 + (passed % 8 + 7 - between(machine, thread) as u64) / 8;
-            let has = many_more(turns[thread], rounds);
-            turns[thread] = has;
+    for (thread, has) in turns.iter_mut().enumerate() {
+        if is_running(machine.threads[thread].status) {
+            let rounds = passed / 8 + (passed % 8 + 7 - u64::from(between(machine, thread))) / 8;
+            *has = many_more(*has, rounds);
         }
     }
     turns

@@ -19,10 +19,8 @@ pub(crate) fn carries_in_range(status: Status, limits: Limits) -> bool
     ensures { result ≡ carries_in_range limits status }
 {
     match status {
-        Status::Idle => true,
-        Status::Running => true,
-        Status::Ended => true,
-        Status::Trapped(reason) => (1 <= reason) & (reason <= limits.reason),
-        Status::Waiting(id, count) => (id <= limits.barrier) & (1 <= count) & (count <= 8),
+        Status::Idle | Status::Running | Status::Ended => true,
+        Status::Trapped(reason) => (1..=limits.reason).contains(&reason),
+        Status::Waiting(id, count) => id <= limits.barrier && (1..=8).contains(&count),
     }
 }

@@ -22,18 +22,16 @@ fn is_disabled(mask: u8, thread: usize) -> bool
 fn fewer_agree(machine: Machine, thread: usize, id: u8, count: u8) -> bool
     ensures { result ≡ (not (disputed machine thread id count) && ltb (waiting machine id) count) }
 {
-    let mut n: usize = 0;
-    for t in 0..8usize {
-        let entry = machine.threads[t];
-        let status = entry.status;
-        if (t != thread) & waits_otherwise(status, id, count) {
+    let mut n = 0;
+    for (t, entry) in machine.threads.iter().enumerate() {
+        if t != thread && waits_otherwise(entry.status, id, count) {
             return false;
         }
-        if waits_at(status, id) {
+        if waits_at(entry.status, id) {
             n += 1;
         }
     }
-    n < count as usize
+    n < usize::from(count)
 }
 
 // The same of any thread: one that does not wait is in order.
@@ -41,11 +39,8 @@ fn barrier_in_order(machine: Machine, thread: usize, status: Status) -> bool
     ensures { result ≡ (if_waiting status (λ id count. not (disputed machine thread id count)) && if_waiting status (λ id count. ltb (waiting machine id) count)) }
 {
     match status {
-        Status::Idle => true,
-        Status::Running => true,
-        Status::Ended => true,
-        Status::Trapped(_) => true,
         Status::Waiting(id, count) => fewer_agree(machine, thread, id, count),
+        _ => true,
     }
 }
 
@@ -54,13 +49,10 @@ fn entry_in_order(machine: Machine, thread: usize, limits: Limits) -> bool
     requires { thread < 8 }
     ensures { result ≡ (carries_in_range limits (status_at machine thread) && idle_if_disabled machine thread && (count_agreed machine thread && fewer_wait machine thread)) }
 {
-    let entry = machine.threads[thread];
-    let status = entry.status;
-    let off = is_disabled(machine.enabled, thread);
-    let idle = is_idle(status);
-    let ranges = carries_in_range(status, limits);
-    let meeting = barrier_in_order(machine, thread, status);
-    ranges & (idle == off) & meeting
+    let status = machine.threads[thread].status;
+    carries_in_range(status, limits)
+        && is_idle(status) == is_disabled(machine.enabled, thread)
+        && barrier_in_order(machine, thread, status)
 }
 
 // Whether the record is well formed, with every number in range.
@@ -74,17 +66,11 @@ pub fn well_formed(machine: Machine) -> bool
 fn well_formed_within(machine: Machine, limits: Limits) -> bool
     ensures { result ≡ well_formed_within limits machine }
 {
-    let enabled = machine.enabled;
-    let last = machine.last;
-    if enabled == 0 {
-        return false;
-    }
-    if 7 < last {
+    if machine.enabled == 0 || 7 < machine.last {
         return false;
     }
     for thread in 0..8 {
-        let fine = entry_in_order(machine, thread, limits);
-        if !fine {
+        if !entry_in_order(machine, thread, limits) {
             return false;
         }
     }

@@ -1,10 +1,10 @@
 -- `fewer_agree` meets its contract.
-use mathlib.Core.Path.{◌≡◌, ◌∙◌}
-use mathlib.Core.Bool.{true, false}
+use Rattle.std.proofs.Common.{◌≡◌, ◌∙◌, sym, true, false}
+use borrow.Author.Tests.{eq-eqb, ne_eqb}
 use Rattle.machine.proofs.Loops.{search-start, search-found, search-on, search-done, count-start, count-one, count-on, count-done}
 use Rattle.machine.proofs.Meetings.{disputes, waits_here}
 use Rattle.well_formedness.proofs.record.fewer_agree.Goals as goal
-use Rattle.well_formedness.proofs.record.fewer_agree.Goals.{then-waits_at, else-waits_at}
+use Rattle.well_formedness.proofs.record.fewer_agree.Goals.{else-t-thread-via-then-t-thread+else-waits_otherwise, else-t-thread-via-else-t-thread, then-waits_at, else-waits_at}
 
 pub loop-t-init : goal.loop-t-init
 loop-t-init c =
@@ -12,13 +12,12 @@ loop-t-init c =
     (search-start (disputes a.machine a.thread a.id a.count), count-start (waits_here a.machine a.id))
 
 -- thread t disputes
-pub returns-then-t-thread : goal.returns-then-t-thread
-returns-then-t-thread c =
+pub returns-then-waits_otherwise : goal.returns-then-waits_otherwise
+returns-then-waits_otherwise c =
     let l = c.loop-t in
     let a = c.args in
     let d = disputes a.machine a.thread a.id a.count in
-    let h : d l.t ≡ true =
-    rw (← c.waits_otherwise.ensures) c.if-t-thread.true in
+    let h : d l.t ≡ true = rw (ne_eqb l.t a.thread c.if-t-thread.true) (sym c.waits_otherwise.ensures ∙ c.if-waits_otherwise.true) in
     rw (search-found d l.t l.invariant.0 c.loop-t-test.true h)
 
 pub loop-t-preserved : goal.loop-t-preserved
@@ -29,12 +28,15 @@ loop-t-preserved c =
     let w = waits_here a.machine a.id in
     let more = c.loop-t-test.true in
     let h : d l.t ≡ false =
-    rw (← c.waits_otherwise.ensures) c.if-t-thread.false in
-    let e : w l.t ≡ c.waits_at.result = rw (← c.waits_at.ensures) in (
+    elim c.else-t-thread.branch [
+      | else-t-thread-via-then-t-thread+else-waits_otherwise x ↦
+          rw (ne_eqb l.t a.thread x.if-t-thread.true) (sym x.waits_otherwise.ensures ∙ x.if-waits_otherwise.false)
+      | else-t-thread-via-else-t-thread x ↦ rw (eq-eqb l.t a.thread x.if-t-thread.false)
+    ] in (
       search-on d l.t l.invariant.0 more h,
       elim c.if-waits_at.branch [
-        | then-waits_at x ↦ count-one w l.t l.invariant.1 more (e ∙ x.if-waits_at.true) x.n-is
-        | else-waits_at x ↦ count-on w l.t l.invariant.1 more (e ∙ x.if-waits_at.false) x.n-is
+        | then-waits_at x ↦ count-one w l.t l.invariant.1 more (sym c.waits_at.ensures ∙ x.if-waits_at.true) x.n-is
+        | else-waits_at x ↦ count-on w l.t l.invariant.1 more (sym c.waits_at.ensures ∙ x.if-waits_at.false) x.n-is
       ],
     )
 
@@ -45,4 +47,5 @@ returns c =
     rw (
       search-done (disputes a.machine a.thread a.id a.count) l.t l.invariant.0 c.loop-t-test.false,
       count-done (waits_here a.machine a.id) l.t l.invariant.1 c.loop-t-test.false,
+      c.from.ensures,
     )

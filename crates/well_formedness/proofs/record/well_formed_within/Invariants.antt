@@ -1,6 +1,5 @@
 -- `well_formed_within` meets its contract.
-use Prim.Native.Nat.{◌-◌}
-use mathlib.Core.Path.{◌≡◌}
+use Rattle.std.proofs.Common.{◌≡◌, ◌-◌}
 use Rattle.machine.specs.WellFormed.{well_formed_within}
 use Rattle.machine.specs.Search.{all}
 use Rattle.well_formedness.proofs.Entries.{in_order}
@@ -9,6 +8,3 @@ use Rattle.well_formedness.proofs.record.well_formed_within.Given as goal
 
 abbrev pub invariant-loop-thread : goal.invariant-loop-thread
 invariant-loop-thread l = well_formed_within l.limits l.machine ≡ all (in_order l.limits l.machine) (from l.thread (8 - l.thread))
-
-abbrev pub decreases-loop-thread : goal.decreases-loop-thread
-decreases-loop-thread l = 8 - l.thread
