@@ -1,19 +1,19 @@
 -- Entries and their numbers are inverse.
 use Prim.Native.Nat.{ℕ}
 use mathlib.Core.Bool.{Bool, true, false, cond, ◌&&◌, and-eq-true_iff}
-use mathlib.Core.Option.{Option, none, some}
+use Rattle.std.proofs.Common.{Option, None, Some}
 use mathlib.Core.Path.{◌≡◌, refl, sym, ap, ◌∙◌}
 use native.Mathlib.Omega.{arith}
 use borrow.Author.Tests.{eqb-true, eq-eqb}
 use lib.Dec.{eqb}
 use Rattle.image.specs.Claims.{Exact}
-use Rattle.answer.specs.Answer.{given, refused}
+use Rattle.answer.specs.Answer.{given, refused, bad-record}
 use Rattle.image.specs.Fields.{status_fields, fields_of, status_of, same_fields, checked_thread, thread_of}
 use Rattle.image.specs.Types.{Status, Idle, Running, Ended, Trapped, Waiting, ThreadFields}
 use Rattle.thread_entry.specs.Entry.{entry_of}
 
 -- the numbers of a status name it
-named : (s : Status) (turns : ℕ) → status_of (status_fields s turns) ≡ some s
+named : (s : Status) (turns : ℕ) → status_of (status_fields s turns) ≡ Some s
 named Idle turns = refl
 named Running turns = refl
 named Ended turns = refl
@@ -53,12 +53,25 @@ exact f e = (there (status_of f), back)
     picked s false h g = absurd (let z : ◌≡◌ {A = ℕ} 0 1 = cc in omega arith)
 
     there : (o : Option Status) → checked_thread f o ≡ given e → fields_of e ≡ f
-    there none h = absurd (let z : ◌≡◌ {A = ℕ} 0 1 = cc in omega arith)
-    there (some s) h = picked s (same_fields (status_fields s f.turns) f) refl h
+    there None h = absurd (let z : ◌≡◌ {A = ℕ} 0 1 = cc in omega arith)
+    there (Some s) h = picked s (same_fields (status_fields s f.turns) f) refl h
 
     back : fields_of e ≡ f → checked_thread f (status_of f) ≡ given e
     back h =
-        let a : checked_thread (fields_of e) (some e.status) ≡ given e =
+        let a : checked_thread (fields_of e) (Some e.status) ≡ given e =
         ap (λ t. cond (same_fields (status_fields e.status t) (fields_of e)) (given (entry_of e.status t)) (refused 4)) (turns-of e.status e.turns)
         ∙ ap (λ b. cond b (given e) (refused 4)) (same_self (fields_of e)) in
         sym (ap (λ g. checked_thread g (status_of g)) h) ∙ (ap (checked_thread (fields_of e)) (named e.status e.turns) ∙ a)
+
+-- numbers are refused for one reason
+pub refused-entry : (f : ThreadFields) (n : ℕ) → refused n ≡ thread_of f → n ≡ bad-record
+unfolding thread_of checked_thread
+refused-entry f n e = there (status_of f) e
+  where
+    picked : (s : Status) (b : Bool) → refused n ≡ cond b (given (entry_of s f.turns)) (refused bad-record) → n ≡ bad-record
+    picked s true h = absurd (let z : ◌≡◌ {A = ℕ} 0 1 = cc in omega arith)
+    picked s false h = cc
+
+    there : (o : Option Status) → refused n ≡ checked_thread f o → n ≡ bad-record
+    there None h = cc
+    there (Some s) h = picked s (same_fields (status_fields s f.turns) f) h

@@ -1,13 +1,14 @@
 -- The machine record that an image holds, found at its fixed places.
 use Prim.Native.Nat.{ℕ, ◌+◌, ◌*◌, ◌/◌, ◌%◌, ◌≤◌, ◌<◌}
-use mathlib.Core.Bool.{Bool, ◌&&◌}
+use mathlib.Core.Bool.{Bool, true, false, ◌&&◌}
 use mathlib.Core.List.{List, [], ◌∷◌}
 use mathlib.Core.Path.{◌≡◌, refl, sym, ap, ◌∙◌}
 use native.Mathlib.Omega.{arith}
 use native.Mathlib.Nat.{le_of_eq}
 use lib.ListN.{length, get_or, take, drop, length-drop}
+use Rattle.std.proofs.lemmas.Nat.{from_le_bytes-to_le_bytes_4}
 use lib.Seq.{get_or-drop, get_or-take, length-take-le}
-use Rattle.answer.specs.Answer.{Answer}
+use Rattle.answer.specs.Answer.{Answer, given, refused, bad-record}
 use Rattle.image_layout.proofs.Join.{grown-whole, length-even}
 use Rattle.image_layout.proofs.Parts.{concat_below-same}
 use Rattle.image_layout.proofs.Rows.{entry-least, record-room, kind-room-in, order-few}
@@ -16,6 +17,7 @@ use Rattle.image_layout.specs.Join.{concat_below, all_below, Grown}
 use Rattle.image_layout.specs.Layout.{thread_row, row_of, kinds, order_of, record_size, start_of, body_place, body_at}
 use Rattle.little_endian.proofs.Numbers.{past_end, behind, cut}
 use Rattle.little_endian.specs.Numbers.{number_at}
+use Rattle.image.specs.Answer.{given_if}
 use Rattle.image.specs.Fields.{fields, thread_of}
 use Rattle.machine.specs.WellFormed.{well_formed}
 use Rattle.image.specs.Image.{fields_in, is_entry, entry_or, entry_in, threads_in, machine_in, record_in}
@@ -84,6 +86,26 @@ module _ (l : List ℕ) (at n : ℕ) (b : (k : ℕ) → get_or l k 0 < 256) wher
       four-of-entry (number_at 4 l (at + 1 + 1 + 1 + 1)) e ∙ fields_at Newest l at (number_at 4 l (at + 1 + 1 + 1 + 1)) (ap (number_at 4 l) z ∙ turns-newest l at)
   entry-number Old h e = four-of-entry 0 e ∙ fields_at Old l at 0 (turns-old l at h)
 
+-- the numbers taken from the eight bytes of one
+pub entry-bytes : (n : ℕ) (l : List ℕ) (turns : ℕ) → n < 18446744073709551616
+    → l ≡ n % 256 ∷ n / 256 % 256 ∷ n / 65536 % 256 ∷ n / 16777216 % 256 ∷ n / 4294967296 % 256 ∷ n / 1099511627776 % 256 ∷ n / 281474976710656 % 256 ∷ n / 72057594037927936 % 256 ∷ []
+    → turns ≡ get_or l 4 0 + get_or l 5 0 * 256 + get_or l 6 0 * 65536 + get_or l 7 0 * 16777216
+    → fields (get_or l 0 0) (get_or l 1 0) (get_or l 2 0) (get_or l 3 0) turns ≡ fields (n % 256) (n / 256 % 256) (n / 256 / 256 % 256) (n / 256 / 256 / 256 % 256) (n / 256 / 256 / 256 / 256)
+entry-bytes n l turns h e t =
+    let m = n / 4294967296 in
+    let p : n / 65536 ≡ n / 256 / 256 = omega arith in
+    let q : n / 16777216 ≡ n / 256 / 256 / 256 = omega arith in
+    let r : m ≡ n / 256 / 256 / 256 / 256 = omega arith in
+    let five : n / 1099511627776 ≡ m / 256 = omega arith in
+    let six : n / 281474976710656 ≡ m / 65536 = omega arith in
+    let seven : n / 72057594037927936 ≡ m / 16777216 = omega arith in
+    let few : m < 4294967296 = omega arith in
+    let sum : m % 256 + n / 1099511627776 % 256 * 256 + n / 281474976710656 % 256 * 65536 + n / 72057594037927936 % 256 * 16777216 ≡ m = rw (five, six, seven) (from_le_bytes-to_le_bytes_4 m few) in
+    let all = t ∙ (ap (λ z. get_or z 4 0 + get_or z 5 0 * 256 + get_or z 6 0 * 65536 + get_or z 7 0 * 16777216) e ∙ (sum ∙ r)) in
+    let third = ap (λ z. get_or z 2 0) e ∙ ap (λ z. z % 256) p in
+    let fourth = ap (λ z. get_or z 3 0) e ∙ ap (λ z. z % 256) q in
+    (λ i. fields (get_or (e i) 0 0) (get_or (e i) 1 0) (third i) (fourth i) (all i))
+
 -- Fixed places.
 
 module _ (s : Shape) (k : Kind) where
@@ -135,3 +157,16 @@ module _ (s : Shape) (l : List ℕ) (at : ℕ) (place : at ≡ body_place (row_o
 pub record-read : (s : Shape) (l : List ℕ) (m : Machine) (a b : Bool) → a ≡ all_below 8 (λ t. is_entry (entry_in s l t)) → m ≡ machine_in s l → b ≡ well_formed m → (a && b) ≡ record_in s l
 unfolding record_in
 record-read s l m a b e f g = (λ i. e i && (g ∙ ap well_formed f) i)
+
+pub record-unread : (s : Shape) (l : List ℕ) → all_below 8 (λ t. is_entry (entry_in s l t)) ≡ false → record_in s l ≡ false
+unfolding record_in
+record-unread s l h = rw h
+
+-- a value that is given if a test holds: what the test says by what was given
+pub given_if-refused : {A : Type 0} (b : Bool) (n : ℕ) (x : A) → refused n ≡ given_if b x → (b ≡ false) × (n ≡ bad-record)
+given_if-refused true n x e = absurd (let z : ◌≡◌ {A = ℕ} 0 1 = cc in omega arith)
+given_if-refused false n x e = (refl, cc)
+
+pub given_if-given : {A : Type 0} (b : Bool) (y x : A) → given y ≡ given_if b x → (b ≡ true) × (y ≡ x)
+given_if-given true y x e = (refl, cc)
+given_if-given false y x e = absurd (let z : ◌≡◌ {A = ℕ} 0 1 = cc in omega arith)

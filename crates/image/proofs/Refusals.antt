@@ -3,7 +3,8 @@ use Prim.Native.Nat.{ℕ, ◌*◌, ◌/◌, ◌%◌, ◌≤◌}
 use mathlib.Core.Bool.{Bool, true, false, ◌||◌, not}
 use mathlib.Core.List.{List}
 use mathlib.Core.Option.{Option, none, some}
-use mathlib.Core.Path.{◌≡◌, sym, ap, ◌∙◌}
+use mathlib.Core.Path.{◌≡◌, refl, sym, ap, ◌∙◌}
+use Rattle.std.proofs.Common.{Result, Ok, Err}
 use native.Mathlib.Omega.{arith}
 use borrow.Author.Tests.{eqb-true, eq-eqb, not-false}
 use lib.Dec.{ltb, eqb}
@@ -11,12 +12,17 @@ use lib.ListN.{length}
 use Rattle.answer.specs.Answer.{given, refused}
 use Rattle.answer.proofs.Checks.{passed, first-after, either-given}
 use Rattle.answer.proofs.Lengths.{memory_most}
-use Rattle.answer.specs.Refusal.{bad_registers, bad_memory, image_length, bad_length, first_that_applies, size_checks, sizes_number, refused_or}
+use Rattle.answer.specs.declared.refusal.Refusal.{Refusal}
+use Rattle.answer.specs.declared.refusal.Refusal.TheVariants as V
+use Rattle.answer.specs.Refusal.{row_of, bad_registers, bad_memory, image_length, bad_length, first_that_applies, size_checks, sizes_number, refused_or}
 use Rattle.machine.specs.State.{State}
+use Rattle.machine.specs.Machine.{zeroed}
 use Rattle.machine.proofs.Tests.{neither}
 use Rattle.machine.specs.WellFormed.{well_formed}
 use Rattle.image_layout.proofs.Rows.{whole_length, form-told}
 use Rattle.image_layout.specs.Layout.{fixed_of, form_of, of_blocks, kinds, start_of, heads_in}
+use Rattle.image.specs.Answer.{answered, given_if}
+use Rattle.image.specs.Opening.{opened, judged}
 use Rattle.image.specs.Calls.{writing, write_refusal, write_as, reading, read_refusal, read_by, read}
 use Rattle.image.specs.Image.{shape_of, Lengths, image, record_in, state_in}
 use Rattle.image.specs.Refusal.{loses_counts, write_checks, record_number, write_number, content_number, record_checks, records_number, read_number_in}
@@ -107,6 +113,15 @@ module _ (f : Form) (dropping : Bool) (s : State) (buffer : List ℕ) where
   unfolding write_as
   write-by o e = rw e
 
+  pub refused-sizes : (n : ℕ) → sizes ≡ some n → write_refusal f dropping s buffer ≡ some n
+  refused-sizes n h = sym write-number ∙ ap (λ o. refused_or o some (record_number f dropping s.machine)) h
+
+  pub refused-record : (n : ℕ) → sizes ≡ none → record_number f dropping s.machine ≡ some n → write_refusal f dropping s buffer ≡ some n
+  refused-record n h g = sym write-number ∙ rw (h, g)
+
+  pub write-refused : (n : ℕ) → write_refusal f dropping s buffer ≡ some n → writing (refused n) buffer ≡ write_as f dropping s buffer
+  write-refused n = write-by (some n)
+
   pub write-taken : sizes ≡ none → record_number f dropping s.machine ≡ none → writing (given tt) (image f s) ≡ write_as f dropping s buffer
   write-taken h g = write-by none (sym write-number ∙ rw (h, g))
 
@@ -135,6 +150,11 @@ module _ (heads accepted : Bool) where
       let b = passed (not accepted) 4 none a.1 in
       (not-false heads a.0, not-false accepted b.0)
 
+  module _ (m : Machine) where
+    -- what is handed back of bytes whose marks do not stand, and of those whose marks do
+    pub judged-heads : heads ≡ false → judged (Err V.Image) ≡ opened (content_number heads accepted) (refused_or (content_number heads accepted) (λ n. zeroed) m)
+    judged-heads h = rw (content-heads h)
+
 module _ (s : Shape) (l : List ℕ) where
   pub records-none : heads_in s l ≡ true → record_in s l ≡ true → records_number s l ≡ none
   unfolding records_number content_number
@@ -143,6 +163,13 @@ module _ (s : Shape) (l : List ℕ) where
   pub records-good : records_number s l ≡ none → (heads_in s l ≡ true) × (record_in s l ≡ true)
   unfolding records_number content_number
   records-good = content-good (heads_in s l) (record_in s l)
+
+pub judged-record : (r : Result Machine Refusal) (heads accepted : Bool) (m : Machine) → heads ≡ true → answered r ≡ given_if accepted m
+    → judged r ≡ opened (content_number heads accepted) (refused_or (content_number heads accepted) (λ n. zeroed) m)
+judged-record (Ok x) heads true m h e = let z : x ≡ m = cc in rw (content-none heads true h refl) (ap (λ y. opened none y) z)
+judged-record (Ok x) heads false m h e = absurd (let z : ◌≡◌ {A = ℕ} 0 1 = cc in omega arith)
+judged-record (Err y) heads true m h e = absurd (let z : ◌≡◌ {A = ℕ} 0 1 = cc in omega arith)
+judged-record (Err y) heads false m h e = let z : row_of y ≡ 4 = cc in rw (content-bad heads false h refl) (ap (λ n. opened (some n) zeroed) z)
 
 pub read_number_lem : (f : Form) (l : List ℕ) (room bytes : ℕ) → read_number_in f l room bytes ≡ refused_or (sizes_number (fixed_of f) room bytes (length l)) some (records_number (of_blocks f (bytes / 64)) l)
 unfolding read_number_in sizes_number records_number

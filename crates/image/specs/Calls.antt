@@ -1,15 +1,16 @@
 -- What the calls hand back and leave (document 01, "Numbers given back" and "Saved image").
-use Rattle.std.specs.Prelude.{ℕ, Bool, false, List, length}
+use Rattle.std.specs.Prelude.{ℕ, Bool, false, List, Result, Ok, Err, length}
 use Rattle.std.proofs.Math.Option.{Option}
 use Rattle.answer.specs.Answer.{Answer, given, refused}
-use Rattle.answer.specs.Refusal.{refused_or}
+use Rattle.answer.specs.Refusal.{row_of, refused_or}
+use Rattle.answer.specs.declared.refusal.Refusal.{Refusal}
 use Rattle.machine.specs.State.{State, state}
 use Rattle.machine.specs.Machine.{zeroed}
 use Rattle.image_layout.specs.Layout.{form_of}
-use Rattle.image.specs.Answer.{write_answered, read_answered}
+use Rattle.image.specs.Answer.{answered}
 use Rattle.image.specs.Image.{shape_of, image, state_in}
 use Rattle.image.specs.Refusal.{write_number, read_number}
-use Rattle.image.specs.Types.{Form, Newest, Old, Shape, WriteAnswer, Read}
+use Rattle.image.specs.Types.{Form, Newest, Old, Shape, Machine}
 
 -- Writing: the answer, and the buffer left.
 
@@ -20,8 +21,8 @@ pub record WriteResult : Type 0 where
 abbrev pub writing : Answer (Unit {0}) → List ℕ → WriteResult
 writing answer buffer = record { answer = answer; buffer = buffer }
 
-abbrev pub written : WriteAnswer → List ℕ → WriteResult
-written r buffer = writing (write_answered r) buffer
+abbrev pub written : Result (Unit {0}) Refusal → List ℕ → WriteResult
+written r buffer = writing (answered r) buffer
 
 -- the number that the table gives the writing of a state into a buffer, in a form, with or without dropping allowed
 abbrev pub write_refusal : Form → Bool → State → List ℕ → Option ℕ
@@ -48,8 +49,10 @@ pub record ReadResult : Type 0 where
 abbrev pub reading : Answer (Unit {0}) → State → ReadResult
 reading answer left = record { answer = answer; left = left }
 
-abbrev pub restored : Read → List ℕ → List ℕ → ReadResult
-restored r registers memory = reading (read_answered r.answer) (state r.machine registers memory)
+-- a refusal hands back no machine: the record then has every number 0
+abbrev pub restored : Result Machine Refusal → List ℕ → List ℕ → ReadResult
+restored (Ok m) registers memory = reading (given tt) (state m registers memory)
+restored (Err refusal) registers memory = reading (refused (row_of refusal)) (state zeroed registers memory)
 
 -- the number that the table gives the reading of an image into a register file and a memory
 abbrev pub read_refusal : List ℕ → List ℕ → List ℕ → Option ℕ

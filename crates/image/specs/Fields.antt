@@ -1,6 +1,5 @@
 -- The numbers of a thread's entry (document 01, "What a machine holds" and "Saved image").
-use Rattle.std.specs.Prelude.{ℕ, Bool, ◌&&◌, cond, eqb}
-use Rattle.std.proofs.Math.Option.{Option, none, some}
+use Rattle.std.specs.Prelude.{ℕ, Bool, ◌&&◌, cond, Option, None, Some, eqb}
 use Rattle.answer.specs.Answer.{Answer, given, refused, bad-record}
 use Rattle.thread_entry.specs.Entry.{entry_of}
 use Rattle.image.specs.Types.{Status, Idle, Running, Ended, Trapped, Waiting, Thread, ThreadFields}
@@ -24,11 +23,11 @@ fields_of entry = status_fields entry.status entry.turns
 -- the status of a number, with what it carries
 abbrev pub status_of : ThreadFields → Option Status
 status_of f =
-    cond (eqb f.status 0) (some Idle)
-    (cond (eqb f.status 1) (some Running)
-    (cond (eqb f.status 2) (some Ended)
-    (cond (eqb f.status 3) (some (Trapped f.reason))
-    (cond (eqb f.status 4) (some (Waiting f.id f.count)) none))))
+    cond (eqb f.status 0) (Some Idle)
+    (cond (eqb f.status 1) (Some Running)
+    (cond (eqb f.status 2) (Some Ended)
+    (cond (eqb f.status 3) (Some (Trapped f.reason))
+    (cond (eqb f.status 4) (Some (Waiting f.id f.count)) None))))
 
 abbrev pub same_fields : ThreadFields → ThreadFields → Bool
 same_fields a b =
@@ -37,8 +36,8 @@ same_fields a b =
 
 -- the entry, if the numbers are its own: not where "an image field not carried is not 0". Their ranges are those of a well-formed record.
 unfoldable pub checked_thread : ThreadFields → Option Status → Answer Thread
-checked_thread f none = refused bad-record
-checked_thread f (some s) = cond (same_fields (status_fields s f.turns) f) (given (entry_of s f.turns)) (refused bad-record)
+checked_thread f None = refused bad-record
+checked_thread f (Some s) = cond (same_fields (status_fields s f.turns) f) (given (entry_of s f.turns)) (refused bad-record)
 
 -- the entry that has these numbers
 unfoldable pub thread_of : ThreadFields → Answer Thread

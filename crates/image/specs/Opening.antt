@@ -1,13 +1,14 @@
 -- The machine record alone, in the bytes that an image opens with: HD, and eight TI (document 01, "Saved image"; 02, T-05).
-use Rattle.std.specs.Prelude.{ℕ, List, []}
-use Rattle.std.proofs.Math.Option.{Option}
-use Rattle.answer.specs.Refusal.{Check, first_that_applies, number_of, refused_or}
+use Rattle.std.specs.Prelude.{ℕ, List, [], Result, Ok, Err}
+use Rattle.std.proofs.Math.Option.{Option, none, some}
+use Rattle.answer.specs.Refusal.{Check, first_that_applies, row_of, refused_or}
+use Rattle.answer.specs.declared.refusal.Refusal.{Refusal}
 use Rattle.machine.specs.State.{state}
 use Rattle.machine.specs.Machine.{zeroed}
 use Rattle.image_layout.specs.Layout.{of_blocks, record_kinds, laid_up_to, heads_up_to}
 use Rattle.image.specs.Image.{body_of, machine_in, record_in}
 use Rattle.image.specs.Refusal.{content_checks}
-use Rattle.image.specs.Types.{Newest, Shape, Machine, Judgement}
+use Rattle.image.specs.Types.{Newest, Shape, Machine}
 
 -- HD and TI of the newest form, which are the same for every memory
 abbrev pub no_blocks : Shape
@@ -35,8 +36,10 @@ pub record Opening : Type 0 where
 abbrev pub opened : Option ℕ → Machine → Opening
 opened number m = record { number = number; machine = m }
 
-abbrev pub judged : Judgement → Opening
-judged r = opened (number_of r.verdict) r.machine
+-- a refusal hands back no machine: the record then has every number 0
+abbrev pub judged : Result Machine Refusal → Opening
+judged (Ok m) = opened none m
+judged (Err refusal) = opened (some (row_of refusal)) zeroed
 
 unfoldable pub read_opening : List ℕ → Opening
 read_opening l = opened (opening_number l) (refused_or (opening_number l) (λ n. zeroed) (machine_in no_blocks l))

@@ -4,15 +4,7 @@ pub use Rattle.image_layout.specs.declared.layout.Kind.TheVariants.{Hd, Ti, Sr, 
 pub use Rattle.image_layout.specs.declared.layout.Form.{Form}
 pub use Rattle.image_layout.specs.declared.layout.Form.TheVariants.{Newest, Old}
 pub use Rattle.image_layout.specs.declared.layout.Shape.{Shape}
-pub use Rattle.image.specs.declared.verdicts.Judgement.{Judgement}
 pub use Rattle.image.specs.declared.fields.ThreadFields.{ThreadFields}
-pub use Rattle.image.specs.declared.fields.EntryReading.{EntryReading}
-pub use Rattle.image.specs.declared.fields.EntryReading.TheVariants.{Entry, Refused as EntryRefused}
-pub use Rattle.image.specs.declared.outcome.WriteAnswer.{WriteAnswer}
-pub use Rattle.image.specs.declared.outcome.WriteAnswer.TheVariants.{Written, Refused as WriteRefused}
-pub use Rattle.image.specs.declared.outcome.ReadAnswer.{ReadAnswer}
-pub use Rattle.image.specs.declared.outcome.ReadAnswer.TheVariants.{Restored, Refused as ReadRefused}
-pub use Rattle.image.specs.declared.outcome.Read.{Read}
 pub use Rattle.machine.specs.declared.record.Machine.{Machine}
 pub use Rattle.thread_entry.specs.declared.status.Status.{Status}
 pub use Rattle.thread_entry.specs.declared.status.Status.TheVariants.{Idle, Running, Ended, Trapped, Waiting}

@@ -1,13 +1,13 @@
 // An entry as the numbers of the saved image, both ways.
-ghost use Rattle.std.proofs.Math.Option.{some};
 ghost use Rattle.std.specs.Prelude.{◌≡◌};
-ghost use Rattle.image.specs.Answer.{entry_answered};
-ghost use Rattle.image.specs.Fields.{fields, same_fields, fields_of, checked_thread, thread_of};
+ghost use Rattle.image.specs.Answer.{answered};
+ghost use Rattle.image.specs.Fields.{fields_of, status_of, thread_of};
 
+use answer::Refusal;
 use thread_entry::{Status, Thread};
 
 // The numbers of an entry, 0 where its status does not carry them; every entry has a count of turns.
-#[derive(Clone, Copy)]
+#[derive(Clone, Copy, PartialEq, Eq, Debug)]
 pub struct ThreadFields {
     pub status: u8,
     pub reason: u8,
@@ -16,74 +16,65 @@ pub struct ThreadFields {
     pub turns: u32,
 }
 
-// What an entry's numbers are read as.
-#[derive(Clone, Copy)]
-pub enum EntryReading {
-    Entry(Thread),
-    Refused,
-}
+impl From<Thread> for ThreadFields {
+    ghost from_gives = { λ thread fields. fields ≡ fields_of thread };
 
-// The numbers by their places.
-fn numbers(status: u8, reason: u8, id: u8, count: u8, turns: u32) -> ThreadFields
-    ensures { result ≡ fields status reason id count turns }
-{
-    ThreadFields {
-        status,
-        reason,
-        id,
-        count,
-        turns,
+    fn from(thread: Thread) -> ThreadFields {
+        let bare = ThreadFields {
+            status: 0,
+            reason: 0,
+            id: 0,
+            count: 0,
+            turns: thread.turns,
+        };
+        match thread.status {
+            Status::Idle => bare,
+            Status::Running => ThreadFields { status: 1, ..bare },
+            Status::Ended => ThreadFields { status: 2, ..bare },
+            Status::Trapped(reason) => ThreadFields {
+                status: 3,
+                reason,
+                ..bare
+            },
+            Status::Waiting(id, count) => ThreadFields {
+                status: 4,
+                id,
+                count,
+                ..bare
+            },
+        }
     }
 }
 
-// Whether the numbers are the same.
-fn same_fields(a: ThreadFields, b: ThreadFields) -> bool
-    ensures { result ≡ same_fields a b }
+// The status that numbers name, if they name one.
+fn status_of(fields: ThreadFields) -> Option<Status>
+    ensures { result ≡ status_of fields }
 {
-    (a.status == b.status)
-        & (a.reason == b.reason)
-        & (a.id == b.id)
-        & (a.count == b.count)
-        & (a.turns == b.turns)
-}
-
-// The numbers of an entry.
-pub fn fields_of(thread: Thread) -> ThreadFields
-    ensures { result ≡ fields_of thread }
-{
-    let status = thread.status;
-    let turns = thread.turns;
-    match status {
-        Status::Idle => numbers(0, 0, 0, 0, turns),
-        Status::Running => numbers(1, 0, 0, 0, turns),
-        Status::Ended => numbers(2, 0, 0, 0, turns),
-        Status::Trapped(reason) => numbers(3, reason, 0, 0, turns),
-        Status::Waiting(id, count) => numbers(4, 0, id, count, turns),
+    match fields.status {
+        0 => Some(Status::Idle),
+        1 => Some(Status::Running),
+        2 => Some(Status::Ended),
+        3 => Some(Status::Trapped(fields.reason)),
+        4 => Some(Status::Waiting(fields.id, fields.count)),
+        _ => None,
     }
-}
-
-// The entry with a status, if the numbers are its own.
-fn accept(status: Status, fields: ThreadFields) -> EntryReading
-    ensures { entry_answered result ≡ checked_thread fields (some status) }
-{
-    let thread = Thread::new(status, fields.turns);
-    if same_fields(fields_of(thread), fields) {
-        return EntryReading::Entry(thread);
-    }
-    EntryReading::Refused
 }
 
 // The entry that has these numbers, if one has.
-pub fn read_entry(fields: ThreadFields) -> EntryReading
-    ensures { entry_answered result ≡ thread_of fields }
-{
-    let number = fields.status;
-    match number {
-        0 => accept(Status::Idle, fields),
-        1 => accept(Status::Running, fields),
-        2 => accept(Status::Ended, fields),
-        3 => accept(Status::Trapped(fields.reason), fields),
-        4 => accept(Status::Waiting(fields.id, fields.count), fields),
-        _ => EntryReading::Refused,
+impl TryFrom<ThreadFields> for Thread {
+    type Error = Refusal;
+
+    ghost try_from_gives = { λ fields read. answered read ≡ thread_of fields };
+
+    fn try_from(fields: ThreadFields) -> Result<Thread, Refusal> {
+        let Some(status) = status_of(fields) else {
+            return Err(Refusal::Record);
+        };
+        let thread = Thread::new(status, fields.turns);
+        if ThreadFields::from(thread) == fields {
+            Ok(thread)
+        } else {
+            Err(Refusal::Record)
+        }
     }
 }

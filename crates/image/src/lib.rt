@@ -6,13 +6,10 @@ mod entries;
 mod fields;
 mod heads;
 mod opening;
-mod outcome;
 mod reading;
 mod verdicts;
 mod writing;
 
 pub use opening::{RECORD_LENGTH, read_record, write_record};
-pub use outcome::{Read, ReadAnswer, WriteAnswer};
 pub use reading::read;
-pub use verdicts::Judgement;
 pub use writing::{write, write_as, write_old};

@@ -8,10 +8,10 @@ ghost use Rattle.image.specs.Image.{Lengths, words_in, registers_in, memory_in};
 ghost use Rattle.image.specs.Refusal.{records_number};
 
 use crate::bytes::{copy_sixteens, take_words};
-use crate::outcome::{Read, ReadAnswer};
-use crate::verdicts::judge_records;
-use answer::{Verdict, sizes_verdict};
-use image_layout::{Kind, Shape, first_body, fixed_part, form_of, record_size, row_of};
+use crate::verdicts::judge_kinds;
+use answer::{Refusal, sizes_verdict};
+use image_layout::{KINDS, Kind, Shape, first_body, fixed_part, form_of, record_size, row_of};
+use machine::Machine;
 
 // The words of every record of a kind, n times four in each, stored from a place on.
 fn take_bodies(shape: Shape, kind: Kind, n: usize, image: &[u8], registers: &mut [u32], from: usize)
@@ -57,46 +57,27 @@ fn take_memory(shape: Shape, image: &[u8], memory: &mut [u8])
 }
 
 // The machine that an image of the right length holds is restored: its registers and memory into lent ones.
-fn read_sized(shape: Shape, image: &[u8], registers: &mut [u32], memory: &mut [u8]) -> Read
+fn read_sized(
+    shape: Shape,
+    image: &[u8],
+    registers: &mut [u32],
+    memory: &mut [u8],
+) -> Result<Machine, Refusal>
     requires { Lengths shape registers.old memory.old × (start_of shape kinds ≤ length image.now) }
     ensures { restored result registers.new memory.new ≡ read_by (records_number shape image.now) shape image.now registers.old memory.old }
 {
-    let judgement = judge_records(shape, image);
-    let verdict = judgement.verdict;
-    let machine = judgement.machine;
-    match verdict {
-        Verdict::Refused(number) => Read {
-            answer: ReadAnswer::Refused(number),
-            machine,
-        },
-        Verdict::Accepted => {
-            take_registers(shape, image, registers);
-            take_memory(shape, image, memory);
-            Read {
-                answer: ReadAnswer::Restored,
-                machine,
-            }
-        }
-    }
+    let machine = judge_kinds(shape, KINDS, image)?;
+    take_registers(shape, image, registers);
+    take_memory(shape, image, memory);
+    Ok(machine)
 }
 
 // The machine that an image holds, in the form that its length says, is restored, if the lengths are right.
-pub fn read(image: &[u8], registers: &mut [u32], memory: &mut [u8]) -> Read
+pub fn read(image: &[u8], registers: &mut [u32], memory: &mut [u8]) -> Result<Machine, Refusal>
     ensures { restored result registers.new memory.new ≡ read image.now registers.old memory.old }
 {
     let form = form_of(image.len());
-    let sizes = sizes_verdict(fixed_part(form), registers.len(), memory.len(), image.len());
-    match sizes {
-        Verdict::Refused(number) => Read {
-            answer: ReadAnswer::Refused(number),
-            machine: run_record::zero(),
-        },
-        Verdict::Accepted => {
-            let shape = Shape {
-                form,
-                blocks: (memory.len() / 64) as u16,
-            };
-            read_sized(shape, image, registers, memory)
-        }
-    }
+    sizes_verdict(fixed_part(form), registers.len(), memory.len(), image.len())?;
+    let blocks = (memory.len() / 64) as u16;
+    read_sized(Shape { form, blocks }, image, registers, memory)
 }

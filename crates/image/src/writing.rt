@@ -7,11 +7,10 @@ ghost use Rattle.image.specs.Calls.{written, write_as, write, write_old};
 ghost use Rattle.image.specs.Image.{Suits, SuitsUpTo, status_bytes, field_bytes, body_of};
 
 use crate::bytes::{copy_sixteens, put_number, put_words};
-use crate::fields::{ThreadFields, fields_of};
+use crate::fields::ThreadFields;
 use crate::heads::put_head;
-use crate::outcome::WriteAnswer;
 use crate::verdicts::judge_record;
-use answer::{Verdict, first_refusal, sizes_verdict};
+use answer::{Refusal, sizes_verdict};
 use image_layout::{Form, KINDS, Kind, Shape, count_at, fixed_part, kind_at, row_of, thread_row};
 use machine::Machine;
 
@@ -31,11 +30,9 @@ fn put_fields(form: Form, fields: ThreadFields, buffer: &mut [u8], at: usize) ->
     requires { at + (thread_row form).size ≤ length buffer.old }
     ensures { Grown buffer.old buffer.new at result (field_bytes form fields) }
 {
-    let turns = fields.turns;
-    let row = thread_row(form);
-    let size = row.size as usize;
+    let size = thread_row(form).size as usize;
     put_status(fields, buffer, at);
-    put_number(turns, size - 4, buffer, at + 4);
+    put_number(fields.turns, size - 4, buffer, at + 4);
     at + size
 }
 
@@ -53,7 +50,6 @@ fn put_body(
     requires { Suits shape kind registers.now memory.now × (i < (row_of shape kind).count) × (at + (row_of shape kind).size ≤ length buffer.old) }
     ensures { Grown buffer.old buffer.new at result (body_of shape.form (state machine registers.now memory.now) kind i) }
 {
-    let form = shape.form;
     match kind {
         Kind::Hd => {
             buffer[at] = machine.last;
@@ -61,8 +57,12 @@ fn put_body(
             at + 2
         }
         Kind::Ti => {
-            let entry = machine.threads[i];
-            put_fields(form, fields_of(entry), buffer, at)
+            put_fields(
+                shape.form,
+                ThreadFields::from(machine.threads[i]),
+                buffer,
+                at,
+            )
         }
         Kind::Sr => {
             put_words(registers, 64 * i, 16, buffer, at);
@@ -154,31 +154,35 @@ pub fn write_as(
     memory: &[u8],
     machine: Machine,
     buffer: &mut [u8],
-) -> WriteAnswer
+) -> Result<(), Refusal>
     ensures { written result buffer.new ≡ write_as form dropping (state machine registers.now memory.now) buffer.old }
 {
-    let sizes = sizes_verdict(
+    sizes_verdict(
         fixed_part(form),
         registers.len(),
         memory.len(),
         buffer.len(),
+    )?;
+    judge_record(form, dropping, machine)?;
+    let blocks = (memory.len() / 64) as u16;
+    put_kinds(
+        Shape { form, blocks },
+        KINDS,
+        registers,
+        memory,
+        machine,
+        buffer,
     );
-    let verdict = first_refusal(sizes, judge_record(form, dropping, machine));
-    match verdict {
-        Verdict::Refused(number) => WriteAnswer::Refused(number),
-        Verdict::Accepted => {
-            let shape = Shape {
-                form,
-                blocks: (memory.len() / 64) as u16,
-            };
-            put_kinds(shape, KINDS, registers, memory, machine, buffer);
-            WriteAnswer::Written
-        }
-    }
+    Ok(())
 }
 
 // The image of a machine is written, in the newest form.
-pub fn write(registers: &[u32], memory: &[u8], machine: Machine, buffer: &mut [u8]) -> WriteAnswer
+pub fn write(
+    registers: &[u32],
+    memory: &[u8],
+    machine: Machine,
+    buffer: &mut [u8],
+) -> Result<(), Refusal>
     ensures { written result buffer.new ≡ write (state machine registers.now memory.now) buffer.old }
 {
     write_as(Form::Newest, false, registers, memory, machine, buffer)
@@ -191,7 +195,7 @@ pub fn write_old(
     machine: Machine,
     dropping: bool,
     buffer: &mut [u8],
-) -> WriteAnswer
+) -> Result<(), Refusal>
     ensures { written result buffer.new ≡ write_old dropping (state machine registers.now memory.now) buffer.old }
 {
     write_as(Form::Old, dropping, registers, memory, machine, buffer)

@@ -34,6 +34,15 @@ all-elim (suc n) p h i l =
     let k = (and-eq-true_iff (all_below n p) (p n)).0 h in
     ⊎_elim (λ e. rw e k.1) (λ b. all-elim n p k.0 i b) (at-or-below i n l)
 
+-- a test of all of them at once
+pub all-tested : (n : ℕ) (p : ℕ → Bool) (b : Bool) → (b ≡ true → (i : ℕ) → i < n → p i ≡ true) → (((i : ℕ) → i < n → p i ≡ true) → b ≡ true) → b ≡ all_below n p
+all-tested n p true f g = sym (all-intro n p (f refl))
+all-tested n p false f g = sym (go (all_below n p) (λ e. g (all-elim n p e)))
+  where
+    go : (b : Bool) → (b ≡ true → false ≡ true) → b ≡ false
+    go true h = absurd (false≢true (h refl))
+    go false h = refl
+
 -- a loop that stops at the first that fails
 
 pub all_none : (p : ℕ → Bool) → all_below 0 p ≡ true

@@ -12,8 +12,8 @@ returns-then-not-well_formed c =
     let w : well_formed a.machine ≡ false = cc in
     sym (record-bad a.form a.dropping a.machine w)
 
-pub returns-then-loses : goal.returns-then-loses
-returns-then-loses c =
+pub returns-then-loses_counts : goal.returns-then-loses_counts
+returns-then-loses_counts c =
     let a = c.args in
     let w : well_formed a.machine ≡ true = cc in
     let l : loses_counts a.form a.dropping a.machine ≡ true = cc in

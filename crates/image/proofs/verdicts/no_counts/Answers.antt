@@ -1,35 +1,20 @@
 -- `verdicts::no_counts` meets its contract.
-use mathlib.Core.Path.{sym}
+use Rattle.std.proofs.Common.{rules, ◌≡◌, length}
+use Rattle.std.specs.Prelude.{◌↔◌, IsTrue, EachIndex}
 use native.Mathlib.Omega.{arith}
-use borrow.Author.Tests.{eq-eqb, ne_eqb}
+use borrow.Author.Tests.{eqb-true, eq-eqb}
 use lib.Dec.{eqb}
-use Rattle.image_layout.proofs.Tests.{all_none, all_more, all-less, all-stop}
+use Rattle.image_layout.proofs.Tests.{all-tested}
 use Rattle.machine.specs.Machine.{turns_at}
 use Rattle.image.specs.Refusal.{no_counts}
 use Rattle.image.proofs.verdicts.no_counts.Goals as goal
-
-pub loop-t-init : goal.loop-t-init
-loop-t-init c = (omega arith, all_none _)
-
-pub returns-then-entry-ne0 : goal.returns-then-entry-ne0
-unfolding no_counts
-returns-then-entry-ne0 c =
-    let m = c.args.machine in
-    let l = c.loop-t in
-    sym (all-less 8 l.t (λ k. eqb (turns_at m k) 0) c.loop-t-test.true (ne_eqb (turns_at m l.t) 0 c.if-entry-ne0.true))
-
-pub loop-t-preserved : goal.loop-t-preserved
-loop-t-preserved c =
-    let m = c.args.machine in
-    let l = c.loop-t in
-    (omega (arith, c.loop-t-test.true), all_more l.t (λ k. eqb (turns_at m k) 0) l.invariant.1 (eq-eqb (turns_at m l.t) 0 c.if-entry-ne0.false))
 
 pub returns : goal.returns
 unfolding no_counts
 returns c =
     let m = c.args.machine in
-    let l = c.loop-t in
-    sym (all-stop l.t 8 (λ k. eqb (turns_at m k) 0) l.invariant.0 (omega (arith, c.loop-t-test.false)) l.invariant.1)
-
-pub overflow_step-t : goal.overflow_step-t
-overflow_step-t c = omega (arith, c.loop-t-test.true)
+    let eight : length m.threads ≡ 8 = search rules in
+    let e : IsTrue c.all.result ↔ EachIndex m.threads (λ k. turns_at m k ≡ 0) = search rules in
+    all-tested 8 (λ k. eqb (turns_at m k) 0) c.all.result
+    (λ t k h. eq-eqb (turns_at m k) 0 (e.0 t k (omega arith)))
+    (λ f. e.1 (λ k h. eqb-true (turns_at m k) 0 (f k (omega arith))))
