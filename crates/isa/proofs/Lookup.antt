@@ -9,18 +9,20 @@ use Rattle.isa.specs.Table.{OpcodeRow, find}
 use Rattle.isa.specs.Types.{Instruction, Unreadable, Undefined}
 
 -- what is found, and what the code does where nothing is: it refuses with `Undefined`
-pub op-of : {A : Type 0} (o : code.Option A) (op : A) → ◌≡◌ {A = code.Result A Unreadable} (code.Ok op) (code.ok_or o Undefined) → Found.found o ≡ some op
-op-of (code.Some x) op e = cc
-op-of code.None op e = cc
+pub op_of : {A : Type 0} (o : code.Option A) (op : A) → ◌≡◌ {A = code.Result A Unreadable} (code.Ok op) (code.ok_or o Undefined) → Found.found o ≡ some op
+op_of (code.Some x) op e = cc
+op_of code.None op e = cc
 
-pub none-of : {A : Type 0} (o : code.Option A) (x : Unreadable) → ◌≡◌ {A = code.Result A Unreadable} (code.Err x) (code.ok_or o Undefined) →
+pub none_of : {A : Type 0} (o : code.Option A) (x : Unreadable) → ◌≡◌ {A = code.Result A Unreadable} (code.Err x) (code.ok_or o Undefined) →
     (Found.found o ≡ none) × ((r : code.Result Instruction Unreadable) → code.IsErr r × code.IsErrAnd r (λ y. y ≡ x) → reading r ≡ refused undefined)
-none-of (code.Some y) x e = cc
-none-of code.None x e = (refl, refuses)
+none_of (code.Some y) x e = cc
+none_of code.None x e = (refl, refuses)
   where
     refuses : (r : code.Result Instruction Unreadable) → code.IsErr r × code.IsErrAnd r (λ y. y ≡ x) → reading r ≡ refused undefined
     refuses (code.Ok i) h = absurd h.1
     refuses (code.Err y) h = let z : y ≡ Undefined = cc in rw z
+
+pub ruleset refused_or = (op_of, none_of)
 
 -- the operation found has the opcode
 pub found : {A : Type 0} (row_of : A → OpcodeRow) (ops : List A) (o : ℕ) (op : A) → find row_of ops o ≡ some op → (row_of op).opcode ≡ o

@@ -9,6 +9,7 @@ use crate::instruction::{
 use crate::{field, opcode, rule};
 use word_layout::{PREFIX_C, PREFIX_I, PREFIX_J, PREFIX_M, PREFIX_MOVEI, PREFIX_R};
 
+#[tactic(auto, unfolding(crate::specs::Read::as_r, crate::specs::Read::guarded, crate::specs::Test::all))]
 fn as_r(w: u32, op: Operation) -> Result<Instruction, Unreadable>
     ensures { reading result ≡ as_r w op }
 {
@@ -28,6 +29,7 @@ fn as_r(w: u32, op: Operation) -> Result<Instruction, Unreadable>
     }
 }
 
+#[tactic(auto, unfolding(crate::specs::Read::as_i, crate::specs::Read::guarded, crate::specs::Test::all))]
 fn as_i(w: u32, op: Operation) -> Result<Instruction, Unreadable>
     ensures { reading result ≡ as_i w op }
 {
@@ -48,6 +50,7 @@ fn as_i(w: u32, op: Operation) -> Result<Instruction, Unreadable>
     }
 }
 
+#[tactic(auto, unfolding(crate::specs::Read::as_movei, crate::specs::Read::guarded, crate::specs::Test::all))]
 fn as_movei(w: u32, op: MoveiOp) -> Result<Instruction, Unreadable>
     ensures { reading result ≡ as_movei w op }
 {
@@ -66,6 +69,7 @@ fn as_movei(w: u32, op: MoveiOp) -> Result<Instruction, Unreadable>
     }
 }
 
+#[tactic(auto, unfolding(crate::specs::Read::as_j, crate::specs::Read::guarded))]
 fn as_j(w: u32, op: JumpOp) -> Result<Instruction, Unreadable>
     ensures { reading result ≡ as_j w op }
 {
@@ -82,6 +86,7 @@ fn as_j(w: u32, op: JumpOp) -> Result<Instruction, Unreadable>
     }
 }
 
+#[tactic(auto, unfolding(crate::specs::Read::as_c, crate::specs::Read::guarded, crate::specs::Test::all))]
 fn as_c(w: u32, op: ControlOp) -> Result<Instruction, Unreadable>
     ensures { reading result ≡ as_c w op }
 {
@@ -94,6 +99,7 @@ fn as_c(w: u32, op: ControlOp) -> Result<Instruction, Unreadable>
     }
 }
 
+#[tactic(auto, unfolding(crate::specs::Read::as_m, crate::specs::Read::guarded, crate::specs::Test::all))]
 fn as_m(w: u32, op: MemoryOp) -> Result<Instruction, Unreadable>
     ensures { reading result ≡ as_m w op }
 {
@@ -115,6 +121,7 @@ fn as_m(w: u32, op: MemoryOp) -> Result<Instruction, Unreadable>
     }
 }
 
+#[tactic(auto, unfolding(crate::specs::Read::read_r, crate::specs::Read::listed))]
 fn read_r(w: u32) -> Result<Instruction, Unreadable>
     ensures { reading result ≡ read_r w }
 {
@@ -126,6 +133,7 @@ fn read_r(w: u32) -> Result<Instruction, Unreadable>
     }
 }
 
+#[tactic(auto, using(crate::proofs::Lookup::refused_or), unfolding(crate::specs::Read::read_i, crate::specs::Read::listed))]
 fn read_i(w: u32) -> Result<Instruction, Unreadable>
     ensures { reading result ≡ read_i w }
 {
@@ -133,6 +141,7 @@ fn read_i(w: u32) -> Result<Instruction, Unreadable>
     as_i(w, op)
 }
 
+#[tactic(auto, using(crate::proofs::Lookup::refused_or), unfolding(crate::specs::Read::read_movei, crate::specs::Read::listed))]
 fn read_movei(w: u32) -> Result<Instruction, Unreadable>
     ensures { reading result ≡ read_movei w }
 {
@@ -140,6 +149,7 @@ fn read_movei(w: u32) -> Result<Instruction, Unreadable>
     as_movei(w, op)
 }
 
+#[tactic(auto, using(crate::proofs::Lookup::refused_or), unfolding(crate::specs::Read::read_j, crate::specs::Read::listed))]
 fn read_j(w: u32) -> Result<Instruction, Unreadable>
     ensures { reading result ≡ read_j w }
 {
@@ -147,6 +157,7 @@ fn read_j(w: u32) -> Result<Instruction, Unreadable>
     as_j(w, op)
 }
 
+#[tactic(auto, using(crate::proofs::Lookup::refused_or), unfolding(crate::specs::Read::read_c, crate::specs::Read::listed))]
 fn read_c(w: u32) -> Result<Instruction, Unreadable>
     ensures { reading result ≡ read_c w }
 {
@@ -154,6 +165,7 @@ fn read_c(w: u32) -> Result<Instruction, Unreadable>
     as_c(w, op)
 }
 
+#[tactic(auto, using(crate::proofs::Lookup::refused_or), unfolding(crate::specs::Read::read_m, crate::specs::Read::listed))]
 fn read_m(w: u32) -> Result<Instruction, Unreadable>
     ensures { reading result ≡ read_m w }
 {

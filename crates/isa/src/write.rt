@@ -30,7 +30,7 @@ fn write_i(op: Operation, flags: u32, d: u32, a: u32, immediate: u32) -> Option<
 {
     let opcode = opcode::r_opcode(op);
     if rule::i_allows(op, flags, d)
-        & field::fits(0x100, immediate)
+        & field::fits::<0x100>(immediate)
         & (opcode < 32)
         & (d < 64)
         & (a < 64)
@@ -63,7 +63,7 @@ fn write_j(op: JumpOp, register: u32, offset: u32) -> Option<u32>
 {
     let opcode = opcode::j_opcode(op);
     if rule::j_allows(op, register, offset)
-        & field::fits(0x20000, offset)
+        & field::fits::<0x20000>(offset)
         & (opcode < 8)
         & (register < 64)
     {
@@ -89,7 +89,7 @@ fn write_m(op: MemoryOp, register: u32, base: u32, offset: u32) -> Option<u32>
 {
     let opcode = opcode::m_opcode(op);
     if rule::m_allows(op, register)
-        & field::fits(0x100, offset)
+        & field::fits::<0x100>(offset)
         & (opcode < 64)
         & (register < 64)
         & (base < 64)
@@ -101,6 +101,7 @@ fn write_m(op: MemoryOp, register: u32, base: u32, offset: u32) -> Option<u32>
 }
 
 // The word of an instruction, where it has one.
+#[tactic(auto, unfolding(crate::specs::Write::write))]
 pub fn write_word(i: Instruction) -> Option<u32>
     ensures { writing result ≡ write i }
 {

@@ -1,7 +1,0 @@
--- `short_signed` meets its contract.
-use Rattle.std.proofs.Common.{arith, rules}
-use Rattle.word_layout.proofs.Signed.{signed-field}
-use Rattle.word_layout.proofs.field.short_signed.Goals as goal
-
-pub returns : goal.returns
-returns c = signed-field 256 _ _ (omega arith) (omega arith) (search rules) c.wrapping_sub_u32.ensures.value
