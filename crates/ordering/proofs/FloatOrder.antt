@@ -1,11 +1,11 @@
 -- The order of floats: that of the numbers that they stand for, with infinities beyond them, and a NaN alone unordered.
-use Rattle.std.proofs.Common.{◌≡◌, ℕ, Bool, true, false, cond, not, ◌||◌, ◌⊎◌, ℤ, sym, refl, ap, ◌∙◌, ap₂, inl, inr, true≢false}
+use Rattle.std.proofs.Common.{◌≡◌, ℕ, Bool, true, false, cond, not, ◌||◌, ◌⊎◌, ℤ, sym, refl, ap, ◌∙◌, ap₂, inl, inr, true≢false, Option, Some, None}
 use lib.Signed.{lt_z}
 use lib.Ieee as Ieee
 use lib.Ieee.{Float, nan, inf, fin}
 use lib.Ieee.Exact.{HasValue}
-use Rattle.ordering.specs.declared.rows.Ordering.{Ordering}
-use Rattle.ordering.specs.declared.rows.Ordering.TheVariants.{Below, Equal, Above, Unordered}
+use Rattle.std.specs.declared.cmp.Ordering.{Ordering}
+use Rattle.std.specs.declared.cmp.Ordering.TheVariants.{Less, Equal, Greater}
 use Rattle.ordering.specs.Order.{ordering, outcome}
 use Rattle.ordering.specs.Claims.{OrdersFinite, side, OrdersInfinite, UnorderedExactly}
 use Rattle.float.specs.Claims.{NoneWithNan}
@@ -16,23 +16,23 @@ use Rattle.float.proofs.Numbers.{equal_is, less-is}
 
 -- ---- three tests, of which the middle one passes where neither of the others does
 
-abbrev order-of : Float → Float → Ordering
+abbrev order-of : Float → Float → Option Ordering
 order-of x y = outcome (Ieee.lt x y) (Ieee.eq x y) (Ieee.lt y x)
 
-by_tests : (less greater : Bool) → outcome less (not (less || greater)) greater ≡ cond less Below (cond greater Above Equal)
+by_tests : (less greater : Bool) → outcome less (not (less || greater)) greater ≡ cond less (Some Less) (cond greater (Some Greater) (Some Equal))
 by_tests true greater = refl
 by_tests false true = refl
 by_tests false false = refl
 
 -- floats that are no NaN are in one of three orders
-three_ways : (x y : Float) → (x ≡ nan → ⊥) → (y ≡ nan → ⊥) → order-of x y ≡ cond (Ieee.lt x y) Below (cond (Ieee.lt y x) Above Equal)
+three_ways : (x y : Float) → (x ≡ nan → ⊥) → (y ≡ nan → ⊥) → order-of x y ≡ cond (Ieee.lt x y) (Some Less) (cond (Ieee.lt y x) (Some Greater) (Some Equal))
 three_ways x y h k =
     ap (λ (same : Bool). outcome (Ieee.lt x y) same (Ieee.lt y x)) (equal_is x y h k) ∙ by_tests (Ieee.lt x y) (Ieee.lt y x)
 
 -- by a number for each, whose order is theirs
 by-numbers : (x y : Float) (z w : ℤ) → (x ≡ nan → ⊥) → (y ≡ nan → ⊥) → Ieee.lt x y ≡ lt_z z w → Ieee.lt y x ≡ lt_z w z
     → order-of x y ≡ ordering z w
-by-numbers x y z w h k e f = three_ways x y h k ∙ ap₂ (λ (s t : Bool). cond s Below (cond t Above Equal)) e f
+by-numbers x y z w h k e f = three_ways x y h k ∙ ap₂ (λ (s t : Bool). cond s (Some Less) (cond t (Some Greater) (Some Equal))) e f
 
 -- ---- finite floats
 
@@ -79,7 +79,7 @@ orders-infinite x y s i h k =
 
 -- ---- NaNs
 
-some-order : (less greater : Bool) → cond less Below (cond greater Above Equal) ≡ Unordered → ⊥
+some-order : (less greater : Bool) → cond less (Some Less) (cond greater (Some Greater) (Some Equal)) ≡ None → ⊥
 some-order true greater e = true≢false cc
 some-order false true e = true≢false cc
 some-order false false e = true≢false cc
@@ -89,7 +89,7 @@ is-nan nan = inl refl
 is-nan (inf s) = inr (λ e. true≢false cc)
 is-nan (fin s m k) = inr (λ e. true≢false cc)
 
-one-is-nan : (x y : Float) → order-of x y ≡ Unordered → (x ≡ nan) ⊎ (y ≡ nan)
+one-is-nan : (x y : Float) → order-of x y ≡ None → (x ≡ nan) ⊎ (y ≡ nan)
 one-is-nan x y e = go (is-nan x) (is-nan y)
   where
     go : (x ≡ nan) ⊎ (x ≡ nan → ⊥) → (y ≡ nan) ⊎ (y ≡ nan → ⊥) → (x ≡ nan) ⊎ (y ≡ nan)

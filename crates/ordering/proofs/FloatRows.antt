@@ -1,24 +1,10 @@
 -- Floats in order, by three tests that exclude one another; each float compare is what its row counts.
 use Rattle.std.proofs.Common.{◌≡◌, ℕ, Bool, true, false, not, ◌||◌, sym, refl, ap, ◌∙◌, true≢false}
 use Rattle.isa.specs.declared.instruction.CompareOp.TheVariants.{Feq, Fne, Fgt, Fge, Flt, Fle}
-use Rattle.ordering.specs.declared.rows.Ordering.TheVariants.{Below, Equal, Above, Unordered}
 use Rattle.ordering.specs.Compare.{compare}
 use Rattle.ordering.specs.Order.{outcome, row_of, counts, answer}
 use Rattle.float.specs.Floats.{value, flt_of, feq_of, fgt_of}
 use Rattle.float.proofs.Comparing.{less-once, less-apart, equal-turned, differs, at_most}
-
--- what three tests tell
-pub told_below : (less same greater : Bool) → less ≡ true → Below ≡ outcome less same greater
-told_below less same greater l = rw l
-
-pub told-equal : (less same greater : Bool) → less ≡ false → same ≡ true → Equal ≡ outcome less same greater
-told-equal less same greater l s = rw (l, s)
-
-pub told-above : (less same greater : Bool) → less ≡ false → same ≡ false → greater ≡ true → Above ≡ outcome less same greater
-told-above less same greater l s g = rw (l, s, g)
-
-pub told-unordered : (less same greater : Bool) → less ≡ false → same ≡ false → greater ≡ false → Unordered ≡ outcome less same greater
-told-unordered less same greater l s g = rw (l, s, g)
 
 -- at most one of three tests passes
 pub record Exclusive (less same greater : Bool) : Type 0 where

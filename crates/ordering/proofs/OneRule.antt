@@ -1,13 +1,13 @@
 -- The compares as one rule: proofs of the claims. What holds of two rows holds of the compares that have them.
-use Rattle.std.proofs.Common.{◌≡◌, ℕ, Bool, true, false, cond, not, T, ℤ, pos, negsuc, sym, refl, ap, ◌∙◌, subst, true≢false, arith, ltb-false, ltb-true, le-ltb}
+use Rattle.std.proofs.Common.{◌≡◌, ℕ, Bool, true, false, cond, not, T, ℤ, pos, negsuc, sym, refl, ap, ◌∙◌, subst, true≢false, arith, ltb-false, ltb-true, le-ltb, Option, Some, None}
 use mathlib.Core.Option.{some}
 use lib.Signed.{lt_z, lt_z_yes}
 use Rattle.isa.specs.Table.{find, operation_at, table_r}
 use Rattle.isa.specs.declared.instruction.Operation.TheVariants.{Compare}
 use Rattle.isa.specs.declared.instruction.CompareOp.{CompareOp}
 use Rattle.isa.specs.declared.instruction.CompareOp.TheVariants.{Eq, Ne, Gt, Ge, Lt, Le, Ugt, Uge, Ult, Ule, Feq, Fne, Fgt, Fge, Flt, Fle}
-use Rattle.ordering.specs.declared.rows.Ordering.{Ordering}
-use Rattle.ordering.specs.declared.rows.Ordering.TheVariants.{Below, Equal, Above, Unordered}
+use Rattle.std.specs.declared.cmp.Ordering.{Ordering}
+use Rattle.std.specs.declared.cmp.Ordering.TheVariants.{Less, Equal, Greater}
 use Rattle.ordering.specs.declared.rows.CompareRow.{CompareRow}
 use Rattle.ordering.specs.declared.rows.Kind.{Kind}
 use Rattle.ordering.specs.declared.rows.Kind.TheVariants.{Unsigned, Signed, Float}
@@ -42,17 +42,17 @@ is_true true h = refl
 is_true false h = absurd h
 
 -- what an outcome says of the two tests
-told_below : (s t : Bool) → cond s Below (cond t Above Equal) ≡ Below → s ≡ true
+told_below : (s t : Bool) → cond s (Some Less) (cond t (Some Greater) (Some Equal)) ≡ Some Less → s ≡ true
 told_below true t e = refl
 told_below false true e = cc
 told_below false false e = cc
 
-told-equal : (s t : Bool) → cond s Below (cond t Above Equal) ≡ Equal → (s ≡ false) × (t ≡ false)
+told-equal : (s t : Bool) → cond s (Some Less) (cond t (Some Greater) (Some Equal)) ≡ Some Equal → (s ≡ false) × (t ≡ false)
 told-equal true t e = (cc, cc)
 told-equal false true e = (refl, cc)
 told-equal false false e = (refl, refl)
 
-told-above : (s t : Bool) → cond s Below (cond t Above Equal) ≡ Above → t ≡ true
+told-above : (s t : Bool) → cond s (Some Less) (cond t (Some Greater) (Some Equal)) ≡ Some Greater → t ≡ true
 told-above true t e = cc
 told-above false true e = refl
 told-above false false e = cc
@@ -61,7 +61,7 @@ pub orders-numbers : OrdersNumbers
 orders-numbers z w = record {
   below = (
     (λ e. lt_z_yes (subst T (sym (told_below (lt_z z w) (lt_z w z) e)) tt)),
-    (λ h. ap (λ (s : Bool). cond s Below (cond (lt_z w z) Above Equal)) (is_true (lt_z z w) h.lt)),
+    (λ h. ap (λ (s : Bool). cond s (Some Less) (cond (lt_z w z) (Some Greater) (Some Equal))) (is_true (lt_z z w) h.lt)),
   );
   equal = (
     (λ e. let f = told-equal (lt_z z w) (lt_z w z) e in neither z w f.0 f.1),
@@ -76,18 +76,18 @@ orders-numbers z w = record {
 -- ---- what holds of two rows holds of the compares that have them
 
 -- whole numbers are never unordered
-abbrev Ordered : Ordering → Type 0
-Ordered Below = Unit {0}
-Ordered Equal = Unit {0}
-Ordered Above = Unit {0}
-Ordered Unordered = ⊥
+abbrev Ordered : Option Ordering → Type 0
+Ordered (Some Less) = Unit {0}
+Ordered (Some Equal) = Unit {0}
+Ordered (Some Greater) = Unit {0}
+Ordered None = ⊥
 
 abbrev Whole : Kind → Type 0
 Whole Unsigned = Unit {0}
 Whole Signed = Unit {0}
 Whole Float = ⊥
 
-ordered : (s t : Bool) → Ordered (cond s Below (cond t Above Equal))
+ordered : (s t : Bool) → Ordered (cond s (Some Less) (cond t (Some Greater) (Some Equal)))
 ordered true t = tt
 ordered false true = tt
 ordered false false = tt
@@ -101,12 +101,12 @@ whole-ordered Float w x y = absurd w
 negated : CompareRow → CompareRow
 negated r = record { kind = r.kind; below = not r.below; equal = not r.equal; above = not r.above; unordered = r.unordered }
 
-counts-negated : (r : CompareRow) (o : Ordering) → Ordered o → counts (negated r) o ≡ not (counts r o)
+counts-negated : (r : CompareRow) (o : Option Ordering) → Ordered o → counts (negated r) o ≡ not (counts r o)
 unfolding negated
-counts-negated r Below h = refl
-counts-negated r Equal h = refl
-counts-negated r Above h = refl
-counts-negated r Unordered h = absurd h
+counts-negated r (Some Less) h = refl
+counts-negated r (Some Equal) h = refl
+counts-negated r (Some Greater) h = refl
+counts-negated r None h = absurd h
 
 opposite : (p q : CompareOp) → row_of q ≡ negated (row_of p) → Whole (row_of p).kind → Opposite p q
 unfolding negated
@@ -120,24 +120,24 @@ opposite p q e w x y hx hy =
 mirrored : CompareRow → CompareRow
 mirrored r = record { kind = r.kind; below = r.above; equal = r.equal; above = r.below; unordered = r.unordered }
 
-turned : Ordering → Ordering
-turned Below = Above
-turned Equal = Equal
-turned Above = Below
-turned Unordered = Unordered
+turned : Option Ordering → Option Ordering
+turned (Some Less) = Some Greater
+turned (Some Equal) = Some Equal
+turned (Some Greater) = Some Less
+turned None = None
 
-counts-turned : (r : CompareRow) (o : Ordering) → counts (mirrored r) (turned o) ≡ counts r o
+counts-turned : (r : CompareRow) (o : Option Ordering) → counts (mirrored r) (turned o) ≡ counts r o
 unfolding mirrored turned
-counts-turned r Below = refl
-counts-turned r Equal = refl
-counts-turned r Above = refl
-counts-turned r Unordered = refl
+counts-turned r (Some Less) = refl
+counts-turned r (Some Equal) = refl
+counts-turned r (Some Greater) = refl
+counts-turned r None = refl
 
 ordering-turned : (z w : ℤ) → ordering w z ≡ turned (ordering z w)
 unfolding turned
 ordering-turned z w = go (lt_z z w) (lt_z w z) (not-both z w)
   where
-    go : (s t : Bool) → (s ≡ true → t ≡ false) → cond t Below (cond s Above Equal) ≡ turned (cond s Below (cond t Above Equal))
+    go : (s t : Bool) → (s ≡ true → t ≡ false) → cond t (Some Less) (cond s (Some Greater) (Some Equal)) ≡ turned (cond s (Some Less) (cond t (Some Greater) (Some Equal)))
     go true true h = absurd (true≢false (h refl))
     go true false h = refl
     go false true h = refl

@@ -1,12 +1,12 @@
 -- Words in order, by the places that the definition of a compare goes by; each compare answers by its row.
-use Rattle.std.proofs.Common.{◌≡◌, ℕ, ◌+◌, ◌%◌, ◌^◌, ◌<◌, Bool, true, false, cond, not, eqb, ltb, leb, sym, refl, ap, ◌∙◌, ap₂, arith, ltb-false, ltb-true, le-ltb, lt-ltb, eq-eqb, ne_eqb, le-leb}
+use Rattle.std.proofs.Common.{◌≡◌, ℕ, ◌+◌, ◌%◌, ◌^◌, ◌<◌, Bool, true, false, cond, not, eqb, ltb, leb, sym, refl, ap, ◌∙◌, ap₂, arith, ltb-false, ltb-true, le-ltb, lt-ltb, eq-eqb, ne_eqb, le-leb, Option, Some}
 use borrow.Author.Tests.{lt-leb}
 use Rattle.isa.specs.declared.instruction.CompareOp.{CompareOp}
 use Rattle.isa.specs.declared.instruction.CompareOp.TheVariants.{Eq, Ne, Gt, Ge, Lt, Le, Ugt, Uge, Ult, Ule, Feq, Fne, Fgt, Fge, Flt, Fle}
 use Rattle.ordering.specs.declared.rows.Kind.{Kind}
 use Rattle.ordering.specs.declared.rows.Kind.TheVariants.{Unsigned, Signed}
-use Rattle.ordering.specs.declared.rows.Ordering.{Ordering}
-use Rattle.ordering.specs.declared.rows.Ordering.TheVariants.{Below, Equal, Above}
+use Rattle.std.specs.declared.cmp.Ordering.{Ordering}
+use Rattle.std.specs.declared.cmp.Ordering.TheVariants.{Less, Equal, Greater}
 use Rattle.ordering.specs.declared.rows.CompareRow.{CompareRow}
 use Rattle.twos_complement.specs.Word.{rank}
 use Rattle.ordering.specs.Order.{order, bias_of, order_biased, row, row_of, counts}
@@ -16,39 +16,27 @@ use Rattle.ordering.proofs.Signs.{rank_is}
 use Rattle.ordering.proofs.Signed.{signed-order}
 
 -- how one place stands to another
-between : ℕ → ℕ → Ordering
-between a b = cond (ltb a b) Below (cond (ltb b a) Above Equal)
+between : ℕ → ℕ → Option Ordering
+between a b = cond (ltb a b) (Some Less) (cond (ltb b a) (Some Greater) (Some Equal))
 
-below : (a b : ℕ) → a < b → between a b ≡ Below
+below : (a b : ℕ) → a < b → between a b ≡ Some Less
 unfolding between
 below a b h = rw (lt-ltb a b h)
 
-equal : (a b : ℕ) → a ≡ b → between a b ≡ Equal
+equal : (a b : ℕ) → a ≡ b → between a b ≡ Some Equal
 unfolding between
 equal a b h = rw (le-ltb a b (omega arith), le-ltb b a (omega arith))
 
-above : (a b : ℕ) → b < a → between a b ≡ Above
+above : (a b : ℕ) → b < a → between a b ≡ Some Greater
 unfolding between
 above a b h = rw (le-ltb a b (omega arith), lt-ltb b a h)
 
 by_rank : (x y : ℕ) → x < 2 ^ 32 → y < 2 ^ 32 → between (rank x) (rank y) ≡ order Signed x y
 unfolding between
 by_rank x y hx hy =
-    ap₂ (λ (s t : Bool). cond s Below (cond t Above Equal)) (signed-order x y hx hy).lt (signed-order y x hy hx).lt
+    ap₂ (λ (s t : Bool). cond s (Some Less) (cond t (Some Greater) (Some Equal))) (signed-order x y hx hy).lt (signed-order y x hy hx).lt
 
 -- ---- the code's orders
-
-pub is_below : (x y : ℕ) → x < y → Below ≡ order Unsigned x y
-unfolding between
-is_below x y h = sym (below x y h)
-
-pub is-equal : (x y : ℕ) → x ≡ y → Equal ≡ order Unsigned x y
-unfolding between
-is-equal x y h = sym (equal x y h)
-
-pub is-above : (x y : ℕ) → y < x → Above ≡ order Unsigned x y
-unfolding between
-is-above x y h = sym (above x y h)
 
 -- with its bias added, the order of words of a kind is the unsigned one
 pub unbiased : (x y : ℕ) → x < 2 ^ 32 → y < 2 ^ 32 → order_biased (bias_of Unsigned) x y ≡ order Unsigned x y

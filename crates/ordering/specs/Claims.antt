@@ -1,5 +1,5 @@
 -- What is proved of the definitions.
-use Rattle.std.specs.Prelude.{◌≡◌, ℕ, ◌^◌, ◌<◌, ◌≤◌, Bool, true, false, not, ◌⊎◌, ◌↔◌, List, [], ◌∷◌, ℤ, pos, negsuc, ◌<ℤ◌, ◌≢◌, int_le, int_lt, Float as Real}
+use Rattle.std.specs.Prelude.{◌≡◌, ℕ, ◌^◌, ◌<◌, ◌≤◌, Bool, true, false, not, ◌⊎◌, ◌↔◌, List, [], ◌∷◌, ℤ, pos, negsuc, ◌<ℤ◌, ◌≢◌, int_le, int_lt, Float as Real, Some, None}
 use Rattle.std.proofs.Math.Option.{some}
 use Rattle.std.specs.Float.{nan, inf, fin}
 use Rattle.isa.specs.declared.instruction.CompareOp.{CompareOp}
@@ -9,7 +9,7 @@ use Rattle.isa.specs.declared.instruction.Operation.TheVariants.{Compare}
 use Rattle.ordering.specs.declared.rows.CompareRow.{CompareRow}
 use Rattle.ordering.specs.declared.rows.Kind.{Kind}
 use Rattle.ordering.specs.declared.rows.Kind.TheVariants.{Unsigned, Signed, Float}
-use Rattle.ordering.specs.declared.rows.Ordering.TheVariants.{Below, Equal, Above, Unordered}
+use Rattle.std.specs.declared.cmp.Ordering.TheVariants.{Less, Equal, Greater}
 use Rattle.twos_complement.specs.Word.{value}
 use Rattle.ordering.specs.Compare.{compare}
 use Rattle.ordering.specs.Order.{ordering, order, row, float_row, answer}
@@ -42,9 +42,9 @@ UnsignedOrder = (x y : ℕ) → ComparesAreUnsigned x y
 
 -- "one three-way ordering": each outcome is one order of the whole numbers
 pub record ThreeWays (z w : ℤ) : Type 0 where
-  pub below : (ordering z w ≡ Below) ↔ (z <ℤ w)
-  pub equal : (ordering z w ≡ Equal) ↔ (z ≡ w)
-  pub above : (ordering z w ≡ Above) ↔ (w <ℤ z)
+  pub below : (ordering z w ≡ Some Less) ↔ (z <ℤ w)
+  pub equal : (ordering z w ≡ Some Equal) ↔ (z ≡ w)
+  pub above : (ordering z w ≡ Some Greater) ↔ (w <ℤ z)
 
 abbrev pub OrdersNumbers : Type 0
 OrdersNumbers = (z w : ℤ) → ThreeWays z w
@@ -68,7 +68,7 @@ OrdersInfinite =
 
 -- and a NaN alone is unordered
 abbrev pub UnorderedExactly : Type 0
-UnorderedExactly = (x y : ℕ) → (order Float x y ≡ Unordered) ↔ ((float x ≡ nan) ⊎ (float y ≡ nan))
+UnorderedExactly = (x y : ℕ) → (order Float x y ≡ None) ↔ ((float x ≡ nan) ⊎ (float y ≡ nan))
 
 -- "for all operands that each answers yes exactly by its row"
 abbrev pub ByRow : CompareRow → CompareOp → Type 0

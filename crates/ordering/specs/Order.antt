@@ -1,25 +1,25 @@
 -- The compares as one rule (document 02, T-07 and T-08): a three-way ordering, with a fourth outcome for floats, and a table of the outcomes that count as yes.
-use Rattle.std.specs.Prelude.{ℕ, ◌+◌, ◌%◌, ◌^◌, Bool, true, false, cond, ℤ, pos, int_lt}
+use Rattle.std.specs.Prelude.{ℕ, ◌+◌, ◌%◌, ◌^◌, Bool, true, false, cond, ℤ, pos, int_lt, Option, Some, None}
 use Rattle.isa.specs.declared.instruction.CompareOp.{CompareOp}
 use Rattle.isa.specs.declared.instruction.CompareOp.TheVariants.{Eq, Ne, Gt, Ge, Lt, Le, Ugt, Uge, Ult, Ule, Feq, Fne, Fgt, Fge, Flt, Fle}
 use Rattle.float.specs.Floats.{feq_of, fgt_of, flt_of}
 use Rattle.twos_complement.specs.Word.{value}
 use Rattle.ordering.specs.declared.rows.Kind.{Kind}
 use Rattle.ordering.specs.declared.rows.Kind.TheVariants.{Unsigned, Signed, Float}
-use Rattle.ordering.specs.declared.rows.Ordering.{Ordering}
-use Rattle.ordering.specs.declared.rows.Ordering.TheVariants.{Below, Equal, Above, Unordered}
+use Rattle.std.specs.declared.cmp.Ordering.{Ordering}
+use Rattle.std.specs.declared.cmp.Ordering.TheVariants.{Less, Equal, Greater}
 use Rattle.ordering.specs.declared.rows.CompareRow.{CompareRow}
 
 -- how one whole number stands to another
-abbrev pub ordering : ℤ → ℤ → Ordering
-ordering z w = cond (int_lt z w) Below (cond (int_lt w z) Above Equal)
+abbrev pub ordering : ℤ → ℤ → Option Ordering
+ordering z w = cond (int_lt z w) (Some Less) (cond (int_lt w z) (Some Greater) (Some Equal))
 
 -- how one float stands to another, by whether it is less, equal or greater: a NaN is none of them
-abbrev pub outcome : Bool → Bool → Bool → Ordering
-outcome less same greater = cond less Below (cond same Equal (cond greater Above Unordered))
+abbrev pub outcome : Bool → Bool → Bool → Option Ordering
+outcome less same greater = cond less (Some Less) (cond same (Some Equal) (cond greater (Some Greater) None))
 
 -- "one three-way ordering, signed or unsigned"; floats have a fourth outcome
-abbrev pub order : Kind → ℕ → ℕ → Ordering
+abbrev pub order : Kind → ℕ → ℕ → Option Ordering
 order Unsigned x y = ordering (pos x) (pos y)
 order Signed x y = ordering (value 32 x) (value 32 y)
 order Float x y = outcome (flt_of x y) (feq_of x y) (fgt_of x y)
@@ -31,7 +31,7 @@ bias_of Signed = 2 ^ 31
 bias_of Float = 0
 
 -- the order of two words with a bias added
-abbrev pub order_biased : ℕ → ℕ → ℕ → Ordering
+abbrev pub order_biased : ℕ → ℕ → ℕ → Option Ordering
 order_biased bias x y = order Unsigned ((x + bias) % 2 ^ 32) ((y + bias) % 2 ^ 32)
 
 -- a row for whole numbers, which are never unordered, and one for floats
@@ -62,14 +62,14 @@ row_of Flt = float_row true false false false  -- 41
 row_of Fle = float_row true true false false  -- 42
 
 -- of four, the one that an outcome picks
-abbrev pub pick : {A : Type 0} → Ordering → A → A → A → A → A
-pick Below below equal above unordered = below
-pick Equal below equal above unordered = equal
-pick Above below equal above unordered = above
-pick Unordered below equal above unordered = unordered
+abbrev pub pick : {A : Type 0} → Option Ordering → A → A → A → A → A
+pick (Some Less) below equal above unordered = below
+pick (Some Equal) below equal above unordered = equal
+pick (Some Greater) below equal above unordered = above
+pick None below equal above unordered = unordered
 
 -- whether a row counts an outcome as yes
-abbrev pub counts : CompareRow → Ordering → Bool
+abbrev pub counts : CompareRow → Option Ordering → Bool
 counts r outcome = pick outcome r.below r.equal r.above r.unordered
 
 -- what a row answers of two words

@@ -6,6 +6,7 @@ ghost use Rattle.ordering.specs.Compare.{compare};
 
 use float::{feq, fgt, flt};
 use isa::CompareOp;
+use std::cmp::Ordering;
 
 // What the operands of a compare stand for: whole numbers without sign, or with it, or floats.
 #[derive(Clone, Copy)]
@@ -13,15 +14,6 @@ pub enum Kind {
     Unsigned,
     Signed,
     Float,
-}
-
-// How one operand stands to the other. Where one is a NaN they are unordered.
-#[derive(Clone, Copy)]
-pub enum Ordering {
-    Below,
-    Equal,
-    Above,
-    Unordered,
 }
 
 // A compare: what its operands stand for, and for each outcome whether it counts as yes.
@@ -85,53 +77,54 @@ pub fn compare_row(op: CompareOp) -> CompareRow
 
 // The order of two words once a bias is added to both, with wrapping: with 2^31 it is the signed one.
 pub fn order_biased(bias: u32, x: u32, y: u32) -> Ordering
-    ensures { result ≡ order_biased bias x y }
+    ensures { Some result ≡ order_biased bias x y }
 {
-    let a = std::num::wrapping_add_u32(x, bias);
-    let b = std::num::wrapping_add_u32(y, bias);
-    if a < b {
-        return Ordering::Below;
-    }
-    if a == b {
-        return Ordering::Equal;
-    }
-    Ordering::Above
+    let a = x.wrapping_add(bias);
+    let b = y.wrapping_add(bias);
+    a.cmp(&b)
 }
 
-fn order_floats(x: u32, y: u32) -> Ordering
+fn order_floats(x: u32, y: u32) -> Option<Ordering>
     ensures { result ≡ order Float x y }
 {
     if flt(x, y) {
-        return Ordering::Below;
+        return Some(Ordering::Less);
     }
     if feq(x, y) {
-        return Ordering::Equal;
+        return Some(Ordering::Equal);
     }
     if fgt(x, y) {
-        return Ordering::Above;
+        return Some(Ordering::Greater);
     }
-    Ordering::Unordered
+    None
 }
 
-pub fn order(kind: Kind, x: u32, y: u32) -> Ordering
+// How one operand stands to the other. Where one is a NaN they are unordered: there is no order.
+pub fn order(kind: Kind, x: u32, y: u32) -> Option<Ordering>
     ensures { result ≡ order kind x y }
 {
     match kind {
-        Kind::Unsigned => order_biased(0, x, y),
-        Kind::Signed => order_biased(2147483648, x, y),
+        Kind::Unsigned => Some(order_biased(0, x, y)),
+        Kind::Signed => Some(order_biased(2147483648, x, y)),
         Kind::Float => order_floats(x, y),
     }
 }
 
 // The columns go by value: the compiler then makes one instruction of a compare that it knows.
-pub fn pick(outcome: Ordering, below: bool, equal: bool, above: bool, unordered: bool) -> bool
+pub fn pick(
+    outcome: Option<Ordering>,
+    below: bool,
+    equal: bool,
+    above: bool,
+    unordered: bool,
+) -> bool
     ensures { result ≡ pick outcome below equal above unordered }
 {
     match outcome {
-        Ordering::Below => below,
-        Ordering::Equal => equal,
-        Ordering::Above => above,
-        Ordering::Unordered => unordered,
+        Some(Ordering::Less) => below,
+        Some(Ordering::Equal) => equal,
+        Some(Ordering::Greater) => above,
+        None => unordered,
     }
 }
 
@@ -139,9 +132,8 @@ pub fn compare(op: CompareOp, x: u32, y: u32) -> bool
     ensures { result ≡ compare op x y }
 {
     let row = compare_row(op);
-    let kind = row.kind;
     pick(
-        order(kind, x, y),
+        order(row.kind, x, y),
         row.below,
         row.equal,
         row.above,
