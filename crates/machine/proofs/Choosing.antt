@@ -9,7 +9,7 @@ use lib.Count.{count_trailing_zeros}
 use lib.Dec.{ltb}
 use Rattle.machine.specs.Claims.{FirstAfterLast, Chooses, ChoosesNone, Turned}
 use Rattle.machine.specs.Machine.{thread_numbers}
-use Rattle.machine.specs.Scheduler.{runs, after, chosen, chosen_at, choice, after_choice, choose}
+use Rattle.machine.specs.Scheduler.{runs, after, some_chosen, chosen_at, choice, after_choice, choose}
 use Rattle.machine.specs.Search.{first, mask_of}
 use Rattle.machine.specs.Types.{Machine, Chosen, Turn}
 use Rattle.machine.proofs.Loops.{from}
@@ -65,21 +65,21 @@ nothing-set m h = choice-at m (first-nowhere (runs_after m) 1 8 (none_after m (m
 unfoldable pub zeros : Machine → ℕ
 zeros m = count_trailing_zeros 32 (ahead m)
 
-pub one_set : (m : Machine) → (mask m ≡ 0 → ⊥) → (zeros m < 8) × (choice m ≡ chosen (after m (zeros m + 1)) (zeros m + 1))
+pub one_set : (m : Machine) → (mask m ≡ 0 → ⊥) → (zeros m < 8) × (choice m ≡ some_chosen (after m (zeros m + 1)) (zeros m + 1))
 unfolding zeros lowest from
 one_set m h =
     go (ltb (zeros m) 8) refl
     (first-lowest (runs_after m) 1 8 (7 - m.last % 8) 32 (omega arith) ∙ ap (λ x. lowest 1 8 (count_trailing_zeros 32 x)) (sym (ahead-mask_of m)))
   where
     go : (b : Bool) → ltb (zeros m) 8 ≡ b → first (runs_after m) (from 1 8) ≡ cond b (Some (1 + zeros m)) None
-        → (zeros m < 8) × (choice m ≡ chosen (after m (zeros m + 1)) (zeros m + 1))
-    go true e f = (ltb-true (zeros m) 8 e, choice-at m f ∙ ap (λ d. chosen (after m d) d) (omega arith))
+        → (zeros m < 8) × (choice m ≡ some_chosen (after m (zeros m + 1)) (zeros m + 1))
+    go true e f = (ltb-true (zeros m) 8 e, choice-at m f ∙ ap (λ d. some_chosen (after m d) d) (omega arith))
     go false e f = absurd (h (nowhere-mask_of (runs m) 0 8 (none_runs m (subst (Found (runs_after m) 1 8) f (found (runs_after m) 1 8)))))
 
 -- The claims.
 
 -- what the search found, by what is chosen
-was-found : (m : Machine) (t d : ℕ) (r : Option ℕ) → chosen_at m r ≡ chosen t d → (r ≡ Some d) × (t ≡ after m d)
+was-found : (m : Machine) (t d : ℕ) (r : Option ℕ) → chosen_at m r ≡ some_chosen t d → (r ≡ Some d) × (t ≡ after m d)
 was-found m t d None h = cc
 was-found m t d (Some k) h =
     let same : record { thread = after m k; distance = k } ≡ record { thread = t; distance = d } = cc in
@@ -93,7 +93,7 @@ none_found m (Some k) h = cc
 pub chooses : Chooses
 chooses m t d = (there, back)
   where
-    there : choice m ≡ chosen t d → FirstAfterLast m t d
+    there : choice m ≡ some_chosen t d → FirstAfterLast m t d
     there h =
         let e = was-found m t d (first (runs_after m) (from 1 8)) (sym (choice-at m refl) ∙ h) in
         let f = subst (Found (runs_after m) 1 8) e.0 (found (runs_after m) 1 8) in
@@ -105,11 +105,11 @@ chooses m t d = (there, back)
           nearest = f.0.before;
         }
 
-    back : FirstAfterLast m t d → choice m ≡ chosen t d
+    back : FirstAfterLast m t d → choice m ≡ some_chosen t d
     back h =
         choice-at m
         (first-at (runs_after m) 1 8 d (record { after = h.low; passes = ap (runs m) (sym h.place) ∙ h.running; before = h.nearest }) (omega (arith, h.high)))
-        ∙ ap (λ u. chosen u d) (sym h.place)
+        ∙ ap (λ u. some_chosen u d) (sym h.place)
 
 pub chooses_none : ChoosesNone
 chooses_none m = (there, back)
@@ -137,7 +137,7 @@ bit-runs m t l e =
     go false e = absurd (omega arith)
 
 -- the thread after "last" runs: it is chosen
-pub following : (m : Machine) (t : ℕ) → t ≡ (m.last % 8 + 1) % 8 → mask m / 2 ^ t % 2 ≡ 1 → choice m ≡ chosen t 1
+pub following : (m : Machine) (t : ℕ) → t ≡ (m.last % 8 + 1) % 8 → mask m / 2 ^ t % 2 ≡ 1 → choice m ≡ some_chosen t 1
 following m t e one =
     (chooses m t 1).1
     (record {

@@ -8,7 +8,7 @@ use lib.ListN.{length, get_or, set}
 use Rattle.machine.specs.Claims.{RoundsCounted}
 use Rattle.thread_entry.specs.Entry.{one_more_turn, many_more}
 use Rattle.machine.specs.Rounds.{between, issues_within, with_issues}
-use Rattle.machine.specs.Scheduler.{chosen, runs, choice, with_last}
+use Rattle.machine.specs.Scheduler.{some_chosen, runs, choice, with_last}
 use Rattle.machine.specs.Types.{Machine}
 use Rattle.machine.proofs.Choosing.{chooses}
 use Rattle.machine.proofs.Tests.{never}
@@ -74,7 +74,7 @@ reaches passed d g low high e = (omega arith, omega arith)
 misses : (passed d farther g : ℕ) → d < farther → farther ≤ 8 → g ≡ (passed + farther - 1) % 8 → (passed + d + 7 - g) / 8 ≡ (passed + 7 - g) / 8
 misses passed d farther g near high e = omega arith
 
-module _ (m : Machine) (passed last t d : ℕ) (e : last % 8 ≡ (m.last + passed) % 8) (h : choice (with_last m last) ≡ chosen t d) where
+module _ (m : Machine) (passed last t d : ℕ) (e : last % 8 ≡ (m.last + passed) % 8) (h : choice (with_last m last) ≡ some_chosen t d) where
   own : (issues_within m passed t ≡ (passed + d - 1) / 8) × (issues_within m (passed + d) t ≡ suc ((passed + d - 1) / 8))
   unfolding issues_within
   own =

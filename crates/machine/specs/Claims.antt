@@ -5,7 +5,7 @@ use Rattle.machine.specs.Barrier.{reach_barrier}
 use Rattle.thread_entry.specs.Entry.{one_more_turn, many_more}
 use Rattle.machine.specs.Machine.{status_at, with_status_at, counted, turns_at, turns_of, with_turns, trap, end, start}
 use Rattle.machine.specs.Rounds.{after_rounds}
-use Rattle.machine.specs.Scheduler.{runs, after, choice, with_last, chosen, after_choice, choose, some_waits}
+use Rattle.machine.specs.Scheduler.{runs, after, choice, with_last, some_chosen, after_choice, choose, some_waits}
 use Rattle.thread_entry.specs.Status.{limits}
 use Rattle.machine.specs.Types.{Limits, Status, Idle, Trapped, Waiting, Machine, Chosen, Turn}
 use Rattle.machine.specs.WellFormed.{waiting, well_formed_within, well_formed}
@@ -55,7 +55,7 @@ pub record FirstAfterLast (m : Machine) (t d : ℕ) : Type 0 where
 
 -- "the first running thread after "last"" is chosen
 abbrev pub Chooses : Type 0
-Chooses = (m : Machine) (t d : ℕ) → (choice m ≡ chosen t d) ↔ FirstAfterLast m t d
+Chooses = (m : Machine) (t d : ℕ) → (choice m ≡ some_chosen t d) ↔ FirstAfterLast m t d
 
 -- and none exactly if no thread runs
 abbrev pub ChoosesNone : Type 0
@@ -131,7 +131,7 @@ pub record RoundsCounted : Type 0 where
   pub none : (m : Machine) (turns : List ℕ) → after_rounds m 0 turns ≡ turns
   -- where "last" has come so many entries on and a thread is chosen, it had so many turns, and has one more after its issue
   pub had : (m : Machine) (turns : List ℕ) (passed last t d : ℕ) → length turns ≡ 8 → last % 8 ≡ (m.last + passed) % 8
-      → choice (with_last m last) ≡ chosen t d → get_or (after_rounds m passed turns) t 0 ≡ many_more ((passed + d - 1) / 8) (get_or turns t 0)
+      → choice (with_last m last) ≡ some_chosen t d → get_or (after_rounds m passed turns) t 0 ≡ many_more ((passed + d - 1) / 8) (get_or turns t 0)
   pub one_more : (m : Machine) (turns : List ℕ) (passed last t d : ℕ) → length turns ≡ 8 → last % 8 ≡ (m.last + passed) % 8
-      → choice (with_last m last) ≡ chosen t d
+      → choice (with_last m last) ≡ some_chosen t d
       → after_rounds m (passed + d) turns ≡ set (after_rounds m passed turns) t (one_more_turn (get_or (after_rounds m passed turns) t 0))

@@ -16,13 +16,13 @@ abbrev pub distances : List ℕ
 distances = 1 ∷ 2 ∷ 3 ∷ 4 ∷ 5 ∷ 6 ∷ 7 ∷ 8 ∷ []
 
 -- a thread chosen, at its distance
-abbrev pub chosen : ℕ → ℕ → Option Chosen
-chosen t d = Some (record { thread = t; distance = d })
+abbrev pub some_chosen : ℕ → ℕ → Option Chosen
+some_chosen t d = Some (record { thread = t; distance = d })
 
 -- the thread chosen at a distance, if at any
 abbrev pub chosen_at : Machine → Option ℕ → Option Chosen
 chosen_at m None = None
-chosen_at m (Some distance) = chosen (after m distance) distance
+chosen_at m (Some distance) = some_chosen (after m distance) distance
 
 -- "the first running thread after "last", going round upwards from 7 to 0"
 unfoldable pub choice : Machine → Option Chosen

@@ -4,7 +4,7 @@ use mathlib.Core.Path.{◌≡◌, refl, sym, ap, ◌∙◌}
 use native.Mathlib.Omega.{arith}
 use Rattle.std.specs.Prelude.{Option, None}
 use lib.Count.{count_trailing_zeros}
-use Rattle.machine.specs.Scheduler.{after, chosen, choice, with_last, after_choice, choose}
+use Rattle.machine.specs.Scheduler.{after, some_chosen, choice, with_last, after_choice, choose}
 use Rattle.machine.specs.Types.{Machine, Chosen}
 use Rattle.machine.proofs.Choosing.{mask, mask-small, zeros, nothing-set, one_set, following}
 use Rattle.machine.proofs.record.Machine.choose.Goals as goal
@@ -17,9 +17,9 @@ turn m c e = ap (λ (x : Option Chosen). record { choice = x; machine = after_ch
 -- what the code computes of the mask r of the running threads
 record Computed (m : Machine) (r : ℕ) : Type 0 where
   small : r ≤ 255
-  following-is : r / 2 ^ ((m.last % 8 + 1) % 8) % 2 ≡ 1 → choice m ≡ chosen ((m.last % 8 + 1) % 8) 1
+  following-is : r / 2 ^ ((m.last % 8 + 1) % 8) % 2 ≡ 1 → choice m ≡ some_chosen ((m.last % 8 + 1) % 8) 1
   near : count_trailing_zeros 32 (r * 257 / 2 ^ (m.last % 8 + 1)) < 8
-  lowest-is : choice m ≡ chosen (after m (count_trailing_zeros 32 (r * 257 / 2 ^ (m.last % 8 + 1)) + 1)) (count_trailing_zeros 32 (r * 257 / 2 ^ (m.last % 8 + 1)) + 1)
+  lowest-is : choice m ≡ some_chosen (after m (count_trailing_zeros 32 (r * 257 / 2 ^ (m.last % 8 + 1)) + 1)) (count_trailing_zeros 32 (r * 257 / 2 ^ (m.last % 8 + 1)) + 1)
 
 computed : (m : Machine) (r : ℕ) → r ≡ mask m → (r ≡ 0 → ⊥) → Computed m r
 unfolding zeros
@@ -47,7 +47,7 @@ returns c =
     let k = computed c.args.self c.running_mask-mask.result c.running_mask-mask.ensures c.if-mask-eq0.false in
     let d = count_trailing_zeros 32 (c.running_mask-mask.result * 257 / 2 ^ (m.last % 8 + 1)) + 1 in
     let e : (m.last % 8 + d) % 8 ≡ after m d = omega arith in
-    ap (λ (t : ℕ). record { choice = chosen t d; machine = with_last m t }) e ∙ turn m (chosen (after m d) d) k.lowest-is
+    ap (λ (t : ℕ). record { choice = some_chosen t d; machine = with_last m t }) e ∙ turn m (some_chosen (after m d) d) k.lowest-is
 
 pub overflow_mul-ahead : goal.overflow_mul-ahead
 overflow_mul-ahead c = let k = computed c.args.self c.running_mask-mask.result c.running_mask-mask.ensures c.if-mask-eq0.false in omega arith
