@@ -9,7 +9,7 @@ use Rattle.machine.specs.Claims.{KeepsRecord}
 use Rattle.machine.specs.Machine.{status_at, turns_of, with_turns, trap}
 use Rattle.machine.specs.Scheduler.{runs}
 use Rattle.thread_entry.specs.Status.{is_running}
-use Rattle.execution.specs.Effect.{Executed}
+use Rattle.execution.specs.Effect.{Fate, Stays, Traps, Ends, ReachesBarrier, Executed}
 use Rattle.execution.proofs.Effects.{Reasoned, UnlessGoesOn, executes-word}
 use Rattle.execution.proofs.OwnRegisters.{Own, own-none, own-then, own-scalar, own-others}
 use Rattle.execution.specs.Claims.{Performs, Lengths, Issues, Untouched, Uncounted, Recounts, TrapsOnly, TrapsAlone, OthersKeepRegisters}
@@ -29,7 +29,7 @@ use Rattle.execution.specs.Issue.{
 use Rattle.execution.specs.Jump.{in_program}
 use Rattle.execution.specs.Registers.{program_counter}
 use Rattle.machine.specs.State.{State, state, recounted, program_counter_register}
-use Rattle.execution.specs.Types.{Context, Effect, Stays, Traps, Ends, ReachesBarrier, Machine, BarrierResult, Ended, Trapped}
+use Rattle.execution.specs.Types.{Context, Machine, BarrierResult, Ended, Trapped}
 
 -- what an issue makes of a state
 record Lawful-issue (s : State) (t : ℕ) (n : State) : Type 0 where
@@ -61,7 +61,7 @@ module _ (s : State) (c : Context) where
       }
 
   -- only a trap leaves the thread trapped
-  settled-trap : (e : Effect) (regs memory : List ℕ) → UnlessGoesOn e (regs ≡ s.registers) → UnlessGoesOn e (memory ≡ s.memory) → (reason : ℕ)
+  settled-trap : (e : Fate) (regs memory : List ℕ) → UnlessGoesOn e (regs ≡ s.registers) → UnlessGoesOn e (memory ≡ s.memory) → (reason : ℕ)
       → runs s.machine c.thread ≡ true → status_at (settle s.machine c regs memory e).machine c.thread ≡ Trapped reason
       → TrapsOnly s c.thread (settle s.machine c regs memory e)
   unfolding reach_barrier
@@ -83,7 +83,7 @@ module _ (s : State) (c : Context) where
       go true k = trapped-only u v 5
       go false k = absurd (arrives-untrapped s.machine c.thread id (second + 1) reason (running-entry s.machine c.thread r) k)
 
-  settles : (e : Effect) (regs memory : List ℕ) → Reasoned e → Own c.thread s.registers regs → length memory ≡ length s.memory
+  settles : (e : Fate) (regs memory : List ℕ) → Reasoned e → Own c.thread s.registers regs → length memory ≡ length s.memory
       → UnlessGoesOn e (regs ≡ s.registers) → UnlessGoesOn e (memory ≡ s.memory) → Lawful-issue s c.thread (settle s.machine c regs memory e)
   settles Stays regs memory h k l u v =
       record {
@@ -162,7 +162,7 @@ module _ (m : Machine) (others : List ℕ) (c : Context) (regs memory : List ℕ
   abbrev with-status : Machine → State
   with-status n = state n regs memory
 
-  recount-settle : (e : Effect) → settle (with_turns m others) c regs memory e ≡ recounted (settle m c regs memory e) others
+  recount-settle : (e : Fate) → settle (with_turns m others) c regs memory e ≡ recounted (settle m c regs memory e) others
   recount-settle Stays = refl
   recount-settle (Traps reason) = ap with-status (counts-apart.set-status m others c.thread (Trapped reason))
   recount-settle Ends = ap with-status (counts-apart.set-status m others c.thread Ended)
@@ -179,7 +179,7 @@ recounts p s others t turns =
     (λ i. cond (in_program c.words c.pc) (ends-settled i) (ends-outside i))
     ∙ recount-either (in_program c.words c.pc) (settled s.machine c x) (state (trap s.machine t 4) s.registers s.memory) others
 
-settle-untouched : (s : State) (c : Context) (regs memory : List ℕ) (e : Effect) → sets_status e ≡ false →
+settle-untouched : (s : State) (c : Context) (regs memory : List ℕ) (e : Fate) → sets_status e ≡ false →
     (settle s.machine c regs memory e).machine ≡ s.machine
 settle-untouched s c regs memory Stays h = refl
 settle-untouched s c regs memory (Traps reason) h = never refl h

@@ -16,21 +16,21 @@ use Rattle.memory.specs.Place.{place, biased, inside}
 use Rattle.execution.proofs.OwnRegisters.{Own, own-none, own-then, own-scalar, own-lanes, own-R, own-I, own-Movei}
 use Rattle.execution.specs.Access.{attempted, stored, load_into, store_from, load_lanes_into, store_lanes_from}
 use Rattle.execution.specs.Control.{control_register, read_into, read_control}
-use Rattle.execution.specs.Effect.{Step, step, trapped, next, Executed, beside}
+use Rattle.execution.specs.Effect.{Fate, Stays, Traps, Ends, ReachesBarrier, Step, step, trapped, next, Executed, beside}
 use Rattle.execution.specs.Issue.{execute, execute_read, execute_word}
 use Rattle.execution.specs.Jump.{in_program, jump_to, jump_by, linked}
 use Rattle.execution.specs.Registers.{scalar, vector, with_scalar, with_program_counter, lane_mask, with_lanes_on}
-use Rattle.execution.specs.Types.{Context, Effect, Stays, Traps, Ends, ReachesBarrier, Instruction, R, I, Movei, J, C, M, Jmp, Jmpsr, Jret, Beqz, Bnez, Barrier, Readcr, End, Load, Store, LoadVector, StoreVector, LoadOp, StoreOp}
+use Rattle.execution.specs.Types.{Context, Instruction, R, I, Movei, J, C, M, Jmp, Jmpsr, Jret, Beqz, Bnez, Barrier, Readcr, End, Load, Store, LoadVector, StoreVector, LoadOp, StoreOp}
 
 -- a trap has a reason of 1 to 6
-abbrev pub Reasoned : Effect → Type 0
+abbrev pub Reasoned : Fate → Type 0
 Reasoned Stays = Unit {0}
 Reasoned (Traps reason) = (1 ≤ reason) × (reason ≤ 6)
 Reasoned Ends = Unit {0}
 Reasoned (ReachesBarrier id second) = Unit {0}
 
 -- what holds where an instruction does not go on: it traps, or meets at a barrier
-abbrev pub UnlessGoesOn : Effect → Type 0 → Type 0
+abbrev pub UnlessGoesOn : Fate → Type 0 → Type 0
 UnlessGoesOn Stays A = Unit {0}
 UnlessGoesOn (Traps reason) A = A
 UnlessGoesOn Ends A = Unit {0}
@@ -50,7 +50,7 @@ pub record Lawful (t : ℕ) (regs memory : List ℕ) (x : Executed) : Type 0 whe
   pub unchanged : UnlessGoesOn x.effect (x.registers ≡ regs)
   pub unstored : UnlessGoesOn x.effect (x.memory ≡ memory)
 
-always : {A : Type 0} (e : Effect) → A → UnlessGoesOn e A
+always : {A : Type 0} (e : Fate) → A → UnlessGoesOn e A
 always Stays a = tt
 always (Traps reason) a = a
 always Ends a = tt

@@ -2,9 +2,9 @@
 use Rattle.std.specs.Prelude.{ℕ, cond, List, ◌==◌}
 use Rattle.std.proofs.Math.Option.{Option, none, some}
 use Rattle.answer.specs.Reason.{not-fitted-word}
-use Rattle.execution.specs.Effect.{Step, step, trapped, next, advanced}
+use Rattle.execution.specs.Effect.{Step, step, trapped, next, advanced, Ends, ReachesBarrier}
 use Rattle.execution.specs.Registers.{scalar, with_scalar}
-use Rattle.execution.specs.Types.{Context, ControlOp, Barrier, Readcr, End, Ends, ReachesBarrier, ControlValue, Known, Unknown}
+use Rattle.execution.specs.Types.{Context, ControlOp, Barrier, Readcr, End}
 
 -- "0 and 1 give 0, 2 and 3 the thread number, 6 the enabled mask, 9 s63, 14 gives 8; any other number traps with 6."
 -- "Service staff want KERNEL_WORK, control register 16. .. readcr 16 gives the value before its own issue." (02, T-05)
@@ -19,11 +19,6 @@ control_register c number =
     (cond (number == 14) (some 8)
     (cond (number == 16) (some c.turns)
     none)))))))
-
--- the cases of the code's answer
-abbrev pub control_value : ControlValue → Option ℕ
-control_value (Known x) = some x
-control_value Unknown = none
 
 abbrev pub read_into : Context → List ℕ → ℕ → Option ℕ → Step
 read_into c regs d none = trapped not-fitted-word regs

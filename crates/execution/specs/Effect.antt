@@ -1,23 +1,47 @@
 -- What an instruction gives and leaves (document 01, "One issue").
-use Rattle.std.specs.Prelude.{ℕ, ◌+◌, List}
+use Rattle.std.specs.Prelude.{ℕ, ◌+◌, List, Result, Ok, Err}
+use Rattle.answer.specs.declared.reason.Reason.{Reason}
+use Rattle.answer.specs.Reason.{reason_of}
 use Rattle.execution.specs.Registers.{with_program_counter}
-use Rattle.execution.specs.Types.{Context, Effect, Stays, Traps}
+use Rattle.execution.specs.declared.effect.Effect.{Effect}
+use Rattle.execution.specs.declared.effect.Effect.TheVariants as V
+use Rattle.execution.specs.Types.{Context}
+
+-- what becomes of a thread by an instruction: it goes on, traps with a reason, ends, or meets others at a barrier, of which this is the id
+-- and the count less one
+pub data Fate : Type 0 where
+  Stays : Fate
+  Traps : ℕ → Fate
+  Ends : Fate
+  ReachesBarrier : ℕ → ℕ → Fate
+
+-- The cases of the code's answers: of any instruction,
+abbrev pub fate_of : Result Effect Reason → Fate
+fate_of (Ok V.Stays) = Stays
+fate_of (Ok V.Ends) = Ends
+fate_of (Ok (V.ReachesBarrier id second)) = ReachesBarrier id second
+fate_of (Err reason) = Traps (reason_of reason)
+
+-- and of one that goes on or traps.
+abbrev pub passed : Result Unit Reason → Fate
+passed (Ok _) = Stays
+passed (Err reason) = Traps (reason_of reason)
 
 -- what becomes of the thread, and the registers
 pub record Step : Type 0 where
-  pub effect : Effect
+  pub effect : Fate
   pub registers : List ℕ
 
-abbrev pub step : Effect → List ℕ → Step
+abbrev pub step : Fate → List ℕ → Step
 step e r = record { effect = e; registers = r }
 
 -- the same with data memory
 pub record Executed : Type 0 where
-  pub effect : Effect
+  pub effect : Fate
   pub registers : List ℕ
   pub memory : List ℕ
 
-abbrev pub executed : Effect → List ℕ → List ℕ → Executed
+abbrev pub executed : Fate → List ℕ → List ℕ → Executed
 executed e r m = record { effect = e; registers = r; memory = m }
 
 abbrev pub beside : Step → List ℕ → Executed

@@ -7,14 +7,14 @@ use Rattle.machine.specs.Barrier.{reach_barrier}
 use Rattle.machine.specs.Machine.{trap, end}
 use Rattle.execution.specs.Access.{access}
 use Rattle.execution.specs.Control.{control}
-use Rattle.execution.specs.Effect.{context, Executed, trapped, next, advanced, beside}
+use Rattle.execution.specs.Effect.{Fate, Stays, Traps, Ends, ReachesBarrier, context, Executed, trapped, next, advanced, beside}
 use Rattle.execution.specs.Immediate.{move_immediate}
 use Rattle.execution.specs.Jump.{in_program, jump}
 use Rattle.execution.specs.Operation.{operate_r, operate_i}
 use Rattle.execution.specs.Registers.{program_counter}
 use Rattle.answer.specs.Refusal.{program_words, register_words}
 use Rattle.machine.specs.State.{State, state}
-use Rattle.execution.specs.Types.{Context, Instruction, R, I, Movei, J, C, M, Effect, Stays, Traps, Ends, ReachesBarrier, Issued, Machine, BarrierResult}
+use Rattle.execution.specs.Types.{Context, Instruction, R, I, Movei, J, C, M, Issued, Machine, BarrierResult}
 
 -- what an instruction does
 abbrev pub execute : Context → List ℕ → List ℕ → Instruction → Executed
@@ -42,7 +42,7 @@ abbrev pub after_barrier : Context → List ℕ → BarrierResult → List ℕ
 after_barrier c regs met = cond met.trapped regs (advanced c regs)
 
 -- what becomes of the machine record
-abbrev pub settle : Machine → Context → List ℕ → List ℕ → Effect → State
+abbrev pub settle : Machine → Context → List ℕ → List ℕ → Fate → State
 settle m c regs memory Stays = state m regs memory
 settle m c regs memory (Traps reason) = state (trap m c.thread reason) regs memory
 settle m c regs memory Ends = state (end m c.thread) regs memory
@@ -53,14 +53,14 @@ abbrev pub settled : Machine → Context → Executed → State
 settled m c x = settle m c x.registers x.memory x.effect
 
 -- whether a status in it is set: by a trap, an end or a barrier
-abbrev pub sets_status : Effect → Bool
+abbrev pub sets_status : Fate → Bool
 sets_status Stays = false
 sets_status (Traps reason) = true
 sets_status Ends = true
 sets_status (ReachesBarrier id second) = true
 
 -- both as the code hands them back, whatever data memory holds
-pub record Settles (m : Machine) (c : Context) (regs : List ℕ) (e : Effect) (r : Issued) (after : List ℕ) : Type 0 where
+pub record Settles (m : Machine) (c : Context) (regs : List ℕ) (e : Fate) (r : Issued) (after : List ℕ) : Type 0 where
   pub left : (memory : List ℕ) → state r.machine after memory ≡ settle m c regs memory e
   pub told : r.changed ≡ sets_status e
 

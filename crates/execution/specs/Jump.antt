@@ -3,9 +3,9 @@ use Rattle.std.specs.Prelude.{ℕ, ◌+◌, ◌-◌, ◌*◌, ◌%◌, ◌^◌, 
 use Rattle.answer.specs.Reason.{outside-program}
 use Rattle.machine.specs.State.{link_register}
 use Rattle.memory.specs.Place.{biased}
-use Rattle.execution.specs.Effect.{Step, step, trapped, next}
+use Rattle.execution.specs.Effect.{Step, step, trapped, next, Stays}
 use Rattle.execution.specs.Registers.{scalar, with_scalar, with_program_counter}
-use Rattle.execution.specs.Types.{Context, JumpOp, Jmp, Jmpsr, Jret, Beqz, Bnez, Stays}
+use Rattle.execution.specs.Types.{Context, JumpOp, Jmp, Jmpsr, Jret, Beqz, Bnez}
 
 -- whether a program of so many words has one at an address: "not a multiple of 4, or at or past the program's end" is none
 abbrev pub in_program : ℕ → ℕ → Bool

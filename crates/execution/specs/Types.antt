@@ -2,11 +2,7 @@
 pub use Rattle.execution.specs.declared.operand.Source.{Source}
 pub use Rattle.execution.specs.declared.operand.Source.TheVariants.{Scalar, Vector}
 pub use Rattle.execution.specs.declared.context.Context.{Context}
-pub use Rattle.execution.specs.declared.effect.Effect.{Effect}
-pub use Rattle.execution.specs.declared.effect.Effect.TheVariants.{Stays, Traps, Ends, ReachesBarrier}
 pub use Rattle.execution.specs.declared.issuing.Issued.{Issued}
-pub use Rattle.execution.specs.declared.control.ControlValue.{ControlValue}
-pub use Rattle.execution.specs.declared.control.ControlValue.TheVariants.{Known, Unknown}
 pub use Rattle.isa.specs.declared.instruction.BinaryOp.{BinaryOp}
 pub use Rattle.isa.specs.declared.instruction.UnaryOp.{UnaryOp}
 pub use Rattle.isa.specs.declared.instruction.CompareOp.{CompareOp}

@@ -1,17 +1,16 @@
 // Loads and stores of registers.
 ghost use Rattle.std.specs.Prelude.{◌≡◌, ◌<◌};
-ghost use Rattle.execution.specs.Access.{load_into, store_from, load_lanes_into, store_lanes_from, access, attempted};
-ghost use Rattle.memory.specs.Attempt.{of_access};
-ghost use Rattle.execution.specs.Effect.{step, executed};
+ghost use Rattle.execution.specs.Access.{load_into, store_from, load_lanes_into, store_lanes_from, access};
+ghost use Rattle.execution.specs.Effect.{step, executed, passed};
 ghost use Rattle.execution.specs.Registers.{InRegisters};
 
 use crate::context::Context;
-use crate::effect::Effect;
 use crate::registers;
+use answer::Reason;
 use isa::{LoadOp, MemoryOp, StoreOp};
 use machine::LANE_MASK;
-use memory::{Access, Loaded};
 
+#[tactic(auto, unfolding(crate::specs::Access::load_into))]
 fn load(
     context: Context,
     regs: &mut [u32],
@@ -20,37 +19,18 @@ fn load(
     register: u32,
     base: u32,
     offset: u32,
-) -> Effect
+) -> Result<(), Reason>
     requires { InRegisters regs.old context.thread × (context.pc < 65536) × (register < 64) × (base < 64) }
-    ensures { step result regs.new ≡ load_into context regs.old memory.now op register base offset }
+    ensures { step (passed result) regs.new ≡ load_into context regs.old memory.now op register base offset }
 {
     let from = registers::scalar(regs, context.thread, base);
-    match memory::load(op, memory, from, offset) {
-        Loaded::Value(x) => {
-            registers::set_scalar(regs, context.thread, register, x);
-            registers::advance(regs, context);
-            Effect::Stays
-        }
-        Loaded::Misaligned => Effect::Traps(1),
-        Loaded::Outside => Effect::Traps(2),
-    }
+    let x = memory::load(op, memory, from, offset)?;
+    registers::set_scalar(regs, context.thread, register, x);
+    registers::advance(regs, context.thread, context.pc);
+    Ok(())
 }
 
-// The thread goes on where the access is done.
-fn go_on(context: Context, regs: &mut [u32], access: Access) -> Effect
-    requires { InRegisters regs.old context.thread × (context.pc < 65536) }
-    ensures { step result regs.new ≡ attempted context regs.old (of_access access) (λ x. regs.old) }
-{
-    match access {
-        Access::Done => {
-            registers::advance(regs, context);
-            Effect::Stays
-        }
-        Access::Misaligned => Effect::Traps(1),
-        Access::Outside => Effect::Traps(2),
-    }
-}
-
+#[tactic(auto, unfolding(crate::specs::Access::store_from))]
 fn store(
     context: Context,
     regs: &mut [u32],
@@ -59,16 +39,18 @@ fn store(
     register: u32,
     base: u32,
     offset: u32,
-) -> Effect
+) -> Result<(), Reason>
     requires { InRegisters regs.old context.thread × (context.pc < 65536) × (register < 64) × (base < 64) }
-    ensures { executed result regs.new memory.new ≡ store_from context regs.old memory.old op register base offset }
+    ensures { executed (passed result) regs.new memory.new ≡ store_from context regs.old memory.old op register base offset }
 {
     let from = registers::scalar(regs, context.thread, base);
     let x = registers::scalar(regs, context.thread, register);
-    let access = memory::store(op, memory, from, offset, x);
-    go_on(context, regs, access)
+    memory::store(op, memory, from, offset, x)?;
+    registers::advance(regs, context.thread, context.pc);
+    Ok(())
 }
 
+#[tactic(auto, unfolding(crate::specs::Access::load_lanes_into))]
 fn load_lanes(
     context: Context,
     regs: &mut [u32],
@@ -76,25 +58,18 @@ fn load_lanes(
     register: u32,
     base: u32,
     offset: u32,
-) -> Effect
+) -> Result<(), Reason>
     requires { InRegisters regs.old context.thread × (context.pc < 65536) × (register < 64) × (base < 64) }
-    ensures { step result regs.new ≡ load_lanes_into context regs.old memory.now register base offset }
+    ensures { step (passed result) regs.new ≡ load_lanes_into context regs.old memory.now register base offset }
 {
     let from = registers::scalar(regs, context.thread, base);
-    let loaded = memory::load_lanes(memory, from, offset);
-    let done = loaded.access;
-    match done {
-        Access::Done => {
-            let lanes = loaded.lanes;
-            registers::set_lanes_on(regs, context.thread, register, lanes);
-            registers::advance(regs, context);
-            Effect::Stays
-        }
-        Access::Misaligned => Effect::Traps(1),
-        Access::Outside => Effect::Traps(2),
-    }
+    let lanes = memory::load_lanes(memory, from, offset)?;
+    registers::set_lanes_on(regs, context.thread, register, lanes);
+    registers::advance(regs, context.thread, context.pc);
+    Ok(())
 }
 
+#[tactic(auto, unfolding(crate::specs::Access::store_lanes_from))]
 fn store_lanes(
     context: Context,
     regs: &mut [u32],
@@ -102,15 +77,16 @@ fn store_lanes(
     register: u32,
     base: u32,
     offset: u32,
-) -> Effect
+) -> Result<(), Reason>
     requires { InRegisters regs.old context.thread × (context.pc < 65536) × (register < 64) × (base < 64) }
-    ensures { executed result regs.new memory.new ≡ store_lanes_from context regs.old memory.old register base offset }
+    ensures { executed (passed result) regs.new memory.new ≡ store_lanes_from context regs.old memory.old register base offset }
 {
     let from = registers::scalar(regs, context.thread, base);
     let mask = registers::scalar(regs, context.thread, LANE_MASK);
     let v = registers::vector(regs, context.thread, register);
-    let access = memory::store_lanes(memory, from, offset, mask, v);
-    go_on(context, regs, access)
+    memory::store_lanes(memory, from, offset, mask, v)?;
+    registers::advance(regs, context.thread, context.pc);
+    Ok(())
 }
 
 pub fn access(
@@ -121,9 +97,9 @@ pub fn access(
     register: u32,
     base: u32,
     offset: u32,
-) -> Effect
+) -> Result<(), Reason>
     requires { InRegisters regs.old context.thread × (context.pc < 65536) × (register < 64) × (base < 64) }
-    ensures { executed result regs.new memory.new ≡ access context regs.old memory.old op register base offset }
+    ensures { executed (passed result) regs.new memory.new ≡ access context regs.old memory.old op register base offset }
 {
     match op {
         MemoryOp::Load(o) => load(context, regs, memory, o, register, base, offset),

@@ -1,67 +1,68 @@
 // Control instructions.
 ghost use Rattle.std.specs.Prelude.{◌≡◌, ◌<◌};
-ghost use Rattle.execution.specs.Control.{control_register, control_value, read_control, control};
-ghost use Rattle.execution.specs.Effect.{step};
+ghost use Rattle.execution.specs.Control.{control_register, read_control, control};
+ghost use Rattle.execution.specs.Effect.{step, passed, fate_of};
 ghost use Rattle.execution.specs.Registers.{InRegisters};
+ghost use Rattle.isa.specs.Found.{found};
 
 use crate::context::Context;
 use crate::effect::Effect;
 use crate::registers;
+use answer::Reason;
 use isa::ControlOp;
 
 // What a control register holds, where there is one of that number.
-#[derive(Clone, Copy)]
-pub enum ControlValue {
-    Known(u32),
-    Unknown,
-}
-
-fn control_register(context: Context, number: u32) -> ControlValue
+#[tactic(auto, unfolding(crate::specs::Control::control_register))]
+fn control_register(context: Context, number: u32) -> Option<u32>
     requires { context.thread < 8 }
-    ensures { control_value result ≡ control_register context number }
+    ensures { found result ≡ control_register context number }
 {
     match number {
-        0 => ControlValue::Known(0),
-        1 => ControlValue::Known(0),
-        2 => ControlValue::Known(context.thread as u32),
-        3 => ControlValue::Known(context.thread as u32),
-        6 => ControlValue::Known(context.enabled as u32),
-        9 => ControlValue::Known(context.pc),
-        14 => ControlValue::Known(8),
-        16 => ControlValue::Known(context.turns),
-        _ => ControlValue::Unknown,
+        0 | 1 => Some(0),
+        2 | 3 => Some(context.thread as u32),
+        6 => Some(u32::from(context.enabled)),
+        9 => Some(context.pc),
+        14 => Some(8),
+        16 => Some(context.turns),
+        _ => None,
     }
 }
 
-fn read_control(context: Context, regs: &mut [u32], first: u32, second: u32) -> Effect
+#[tactic(auto, unfolding(crate::specs::Control::read_control))]
+fn read_control(context: Context, regs: &mut [u32], first: u32, second: u32) -> Result<(), Reason>
     requires { InRegisters regs.old context.thread × (context.pc < 65536) × (first < 64) × (second < 64) }
-    ensures { step result regs.new ≡ read_control context regs.old first second }
+    ensures { step (passed result) regs.new ≡ read_control context regs.old first second }
 {
     let number = registers::scalar(regs, context.thread, second);
-    match control_register(context, number) {
-        ControlValue::Known(x) => {
-            registers::set_scalar(regs, context.thread, first, x);
-            registers::advance(regs, context);
-            Effect::Stays
-        }
-        ControlValue::Unknown => Effect::Traps(6),
-    }
+    let x = control_register(context, number).ok_or(Reason::NotFittedWord)?;
+    registers::set_scalar(regs, context.thread, first, x);
+    registers::advance(regs, context.thread, context.pc);
+    Ok(())
 }
 
-pub fn control(context: Context, regs: &mut [u32], op: ControlOp, first: u32, second: u32) -> Effect
+pub fn control(
+    context: Context,
+    regs: &mut [u32],
+    op: ControlOp,
+    first: u32,
+    second: u32,
+) -> Result<Effect, Reason>
     requires { InRegisters regs.old context.thread × (context.pc < 65536) × (first < 64) × (second < 64) }
-    ensures { step result regs.new ≡ control context regs.old op first second }
+    ensures { step (fate_of result) regs.new ≡ control context regs.old op first second }
 {
     match op {
         ControlOp::Barrier => {
             let id = registers::scalar(regs, context.thread, first);
             let count = registers::scalar(regs, context.thread, second);
-            Effect::ReachesBarrier(id, count)
+            Ok(Effect::ReachesBarrier(id, count))
         }
-        ControlOp::Readcr => read_control(context, regs, first, second),
+        ControlOp::Readcr => {
+            read_control(context, regs, first, second)?;
+            Ok(Effect::Stays)
+        }
         ControlOp::End => {
-            registers::advance(regs, context);
-            Effect::Ends
+            registers::advance(regs, context.thread, context.pc);
+            Ok(Effect::Ends)
         }
     }
 }

@@ -6,8 +6,10 @@ ghost use Rattle.execution.specs.Registers.{InRegisters};
 
 use crate::registers;
 use isa::MoveiOp;
+use std::array;
 
-fn replace(op: MoveiOp, old: u32, n: u32) -> u32
+// What a move of n makes of a register that held `old`.
+pub fn replace(op: MoveiOp, old: u32, n: u32) -> u32
     requires { HalfWord op n }
     ensures { result ≡ replaced op old n }
 {
@@ -22,13 +24,10 @@ fn replace_lanes(op: MoveiOp, old: [u32; 16], n: u32) -> [u32; 16]
     requires { HalfWord op n }
     ensures { result ≡ replaced_lanes op old n }
 {
-    let mut v = [0u32; 16];
-    for j in 0..16usize {
-        v[j] = replace(op, old[j], n);
-    }
-    v
+    array::from_fn(|j| replace(op, old[j], n))
 }
 
+#[tactic(auto, unfolding(crate::specs::Immediate::move_immediate))]
 pub fn move_immediate(regs: &mut [u32], t: usize, op: MoveiOp, flag: bool, d: u32, n: u32)
     requires { InRegisters regs.old t × (d < 64) × HalfWord op n }
     ensures { regs.new ≡ move_immediate regs.old t op flag d n }

@@ -2,6 +2,7 @@
 ghost use Rattle.std.specs.Prelude.{◌≡◌, ◌<◌, ◌≤◌, length};
 ghost use Rattle.answer.specs.Refusal.{program_words};
 ghost use Rattle.machine.specs.Barrier.{reach_barrier};
+ghost use Rattle.execution.specs.Effect.{fate_of};
 ghost use Rattle.execution.specs.Issue.{after_barrier, fits, perform, perform_sets_status, issue, issue_sets_status, Settles};
 ghost use Rattle.execution.specs.Registers.{InRegisters};
 ghost use Rattle.machine.specs.State.{state};
@@ -9,13 +10,14 @@ ghost use Rattle.machine.specs.State.{state};
 use crate::context::Context;
 use crate::effect::Effect;
 use crate::{execute, jump, registers};
+use answer::{PROGRAM_WORDS, REGISTER_WORDS, Reason};
 use machine::{Machine, PROGRAM_COUNTER};
 
 // Whether the lengths and the thread are such as a run comes to.
-fn fits(words: usize, regs: usize, thread: usize) -> bool
+pub fn fits(words: usize, regs: usize, thread: usize) -> bool
     ensures { result ≡ fits words regs thread }
 {
-    (words <= 16384) & (regs == 8704) & (thread < 8)
+    (words <= PROGRAM_WORDS) & (regs == REGISTER_WORDS) & (thread < 8)
 }
 
 // The thread at a barrier: s63 moves on unless it traps.
@@ -31,41 +33,44 @@ fn reach_barrier(
         × (registers.new ≡ after_barrier context registers.old (reach_barrier machine context.thread id second)) }
 {
     let met = machine.reach_barrier(context.thread, id, second);
-    let trapped = met.trapped;
-    if trapped {
-        return met.machine;
+    if !met.trapped {
+        registers::advance(registers, context.thread, context.pc);
     }
-    registers::advance(registers, context);
     met.machine
 }
 
 // The record after an issue, and whether a status in it was set: by a trap, an end or a barrier.
-#[derive(Clone, Copy)]
+#[derive(Clone, Copy, Debug, PartialEq, Eq)]
 pub struct Issued {
     pub machine: Machine,
     pub changed: bool,
 }
 
 // What becomes of the record.
-fn settle(context: Context, registers: &mut [u32], machine: Machine, effect: Effect) -> Issued
+fn settle(
+    context: Context,
+    registers: &mut [u32],
+    machine: Machine,
+    outcome: Result<Effect, Reason>,
+) -> Issued
     requires { InRegisters registers.old context.thread × (context.pc < 65536) }
-    ensures { Settles machine context registers.old effect result registers.new }
+    ensures { Settles machine context registers.old (fate_of outcome) result registers.new }
 {
-    match effect {
-        Effect::Stays => Issued {
+    match outcome {
+        Ok(Effect::Stays) => Issued {
             machine,
             changed: false,
         },
-        Effect::Traps(reason) => Issued {
-            machine: machine.trap(context.thread, reason),
-            changed: true,
-        },
-        Effect::Ends => Issued {
+        Ok(Effect::Ends) => Issued {
             machine: machine.end(context.thread),
             changed: true,
         },
-        Effect::ReachesBarrier(id, second) => Issued {
+        Ok(Effect::ReachesBarrier(id, second)) => Issued {
             machine: reach_barrier(context, registers, machine, id, second),
+            changed: true,
+        },
+        Err(reason) => Issued {
+            machine: machine.trap(context.thread, reason.number()),
             changed: true,
         },
     }
@@ -90,7 +95,7 @@ fn perform(
     let pc = registers::scalar(registers, t, PROGRAM_COUNTER);
     if !jump::in_program(words, pc) {
         return Issued {
-            machine: machine.trap(t, 4),
+            machine: machine.trap(t, Reason::OutsideProgram.number()),
             changed: true,
         };
     }
@@ -102,12 +107,13 @@ fn perform(
         words,
         turns,
     };
-    let effect = execute::word(context, registers, memory, w);
-    settle(context, registers, machine, effect)
+    let outcome = execute::word(context, registers, memory, w);
+    settle(context, registers, machine, outcome)
 }
 
 // The same, for any lengths and any thread number: it neither makes the thread "last" nor counts its turn, and is told how many the
 // thread has had before, whatever counts the record holds.
+#[tactic(auto, unfolding(crate::specs::Issue::issue, crate::specs::Issue::issue_sets_status))]
 pub fn issue(
     program: &[u32],
     registers: &mut [u32],

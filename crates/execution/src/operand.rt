@@ -7,7 +7,7 @@ ghost use Rattle.vector.specs.Lanes.{splatted};
 use crate::registers;
 
 // A scalar's word, or the number of a vector register: its lanes are read where they are used.
-#[derive(Clone, Copy)]
+#[derive(Clone, Copy, Debug, PartialEq, Eq)]
 pub enum Source {
     Scalar(u32),
     Vector(u32),
@@ -24,36 +24,37 @@ pub fn select(regs: &[u32], t: usize, flag: bool, i: u32) -> Source
     }
 }
 
-pub fn is_vector(s: Source) -> bool
-    ensures { result ≡ is_vector s }
-{
-    match s {
-        Source::Scalar(_) => false,
-        Source::Vector(_) => true,
-    }
-}
-
-pub fn word(s: Source) -> u32
-    ensures { result ≡ word s }
-{
-    match s {
-        Source::Scalar(x) => x,
-        Source::Vector(_) => 0,
-    }
-}
-
-fn splat(x: u32) -> [u32; 16]
+// A number as sixteen equal lanes.
+#[tactic(auto, unfolding(vector::specs::Lanes::splatted, vector::specs::Lanes::tab))]
+pub fn splat(x: u32) -> [u32; 16]
     ensures { result ≡ splatted x }
 {
     [x; 16]
 }
 
-pub fn lanes(regs: &[u32], t: usize, s: Source) -> [u32; 16]
-    requires { InRegisters regs.now t × Named s }
-    ensures { result ≡ lanes regs.now t s }
-{
-    match s {
-        Source::Scalar(x) => splat(x),
-        Source::Vector(i) => registers::vector(regs, t, i),
+impl Source {
+    pub fn is_vector(self) -> bool
+        ensures { result ≡ is_vector self }
+    {
+        matches!(self, Source::Vector(_))
+    }
+
+    pub fn word(self) -> u32
+        ensures { result ≡ word self }
+    {
+        match self {
+            Source::Scalar(x) => x,
+            Source::Vector(_) => 0,
+        }
+    }
+
+    pub fn lanes(self, regs: &[u32], t: usize) -> [u32; 16]
+        requires { InRegisters regs.now t × Named self }
+        ensures { result ≡ lanes regs.now t self }
+    {
+        match self {
+            Source::Scalar(x) => splat(x),
+            Source::Vector(i) => registers::vector(regs, t, i),
+        }
     }
 }

@@ -1,5 +1,5 @@
 // The operations of R and I: register d from operands a and b.
-ghost use Rattle.std.specs.Prelude.{◌≡◌, ◌<◌, if◌then◌else◌};
+ghost use Rattle.std.specs.Prelude.{◌≡◌, ◌<◌};
 ghost use Rattle.execution.specs.Operand.{Named};
 ghost use Rattle.execution.specs.Operation.{binary_into, unary_into, compare_into, shuffle_into, get_lane_into, operate, operate_r, operate_i};
 ghost use Rattle.execution.specs.Registers.{InRegisters};
@@ -9,76 +9,70 @@ use crate::{operand, registers};
 use isa::{BinaryOp, CompareOp, Operation, UnaryOp};
 use machine::LANE_MASK;
 
+#[tactic(auto, unfolding(crate::specs::Operation::binary_into, crate::specs::Registers::with_lanes_on))]
 fn binary(regs: &mut [u32], t: usize, op: BinaryOp, flag: bool, d: u32, a: Source, b: Source)
     requires { InRegisters regs.old t × (d < 64) × Named a × Named b }
     ensures { regs.new ≡ binary_into regs.old t op flag d a b }
 {
     if flag {
-        let x = operand::lanes(regs, t, a);
-        let y = operand::lanes(regs, t, b);
+        let x = a.lanes(regs, t);
+        let y = b.lanes(regs, t);
         let mask = registers::scalar(regs, t, LANE_MASK);
         let old = registers::vector(regs, t, d);
         registers::set_vector(regs, t, d, vector::binary_masked(op, mask, x, y, old));
     } else {
-        let x = operand::word(a);
-        let y = operand::word(b);
-        registers::set_scalar(regs, t, d, alu::binary(op, x, y));
+        registers::set_scalar(regs, t, d, alu::binary(op, a.word(), b.word()));
     }
 }
 
+#[tactic(auto, unfolding(crate::specs::Operation::unary_into, crate::specs::Registers::with_lanes_on))]
 fn unary(regs: &mut [u32], t: usize, op: UnaryOp, flag: bool, d: u32, a: Source)
     requires { InRegisters regs.old t × (d < 64) × Named a }
     ensures { regs.new ≡ unary_into regs.old t op flag d a }
 {
     if flag {
-        let x = operand::lanes(regs, t, a);
+        let x = a.lanes(regs, t);
         let mask = registers::scalar(regs, t, LANE_MASK);
         let old = registers::vector(regs, t, d);
         registers::set_vector(regs, t, d, vector::unary_masked(op, mask, x, old));
     } else {
-        let x = operand::word(a);
-        registers::set_scalar(regs, t, d, alu::unary(op, x));
+        registers::set_scalar(regs, t, d, alu::unary(op, a.word()));
     }
 }
 
-fn number(holds: bool) -> u32
-    ensures { result ≡ (if holds then 1 else 0) }
-{
-    if holds { 1 } else { 0 }
-}
-
+#[tactic(auto, unfolding(crate::specs::Operation::compare_into))]
 fn compare(regs: &mut [u32], t: usize, op: CompareOp, d: u32, a: Source, b: Source)
     requires { InRegisters regs.old t × (d < 64) × Named a × Named b }
     ensures { regs.new ≡ compare_into regs.old t op d a b }
 {
-    if operand::is_vector(a) | operand::is_vector(b) {
-        let x = operand::lanes(regs, t, a);
-        let y = operand::lanes(regs, t, b);
+    if a.is_vector() | b.is_vector() {
+        let x = a.lanes(regs, t);
+        let y = b.lanes(regs, t);
         let mask = registers::scalar(regs, t, LANE_MASK);
         registers::set_scalar(regs, t, d, compares::compare_lanes(op, mask, x, y));
     } else {
-        let x = operand::word(a);
-        let y = operand::word(b);
-        registers::set_scalar(regs, t, d, number(ordering::compare(op, x, y)));
+        let holds = ordering::compare(op, a.word(), b.word());
+        registers::set_scalar(regs, t, d, u32::from(holds));
     }
 }
 
+#[tactic(auto, unfolding(crate::specs::Operation::shuffle_into))]
 fn shuffle(regs: &mut [u32], t: usize, d: u32, a: Source, b: Source)
     requires { InRegisters regs.old t × (d < 64) × Named a × Named b }
     ensures { regs.new ≡ shuffle_into regs.old t d a b }
 {
-    let x = operand::lanes(regs, t, a);
-    let y = operand::lanes(regs, t, b);
+    let x = a.lanes(regs, t);
+    let y = b.lanes(regs, t);
     registers::set_lanes_on(regs, t, d, vector::shuffle(x, y));
 }
 
+#[tactic(auto, unfolding(crate::specs::Operation::get_lane_into))]
 fn get_lane(regs: &mut [u32], t: usize, d: u32, a: Source, b: Source)
     requires { InRegisters regs.old t × (d < 64) × Named a }
     ensures { regs.new ≡ get_lane_into regs.old t d a b }
 {
-    let x = operand::lanes(regs, t, a);
-    let j = operand::word(b) % 16;
-    registers::set_scalar(regs, t, d, x[j as usize]);
+    let x = a.lanes(regs, t);
+    registers::set_scalar(regs, t, d, x[(b.word() % 16) as usize]);
 }
 
 fn operate(regs: &mut [u32], t: usize, op: Operation, flag: bool, d: u32, a: Source, b: Source)
@@ -94,6 +88,7 @@ fn operate(regs: &mut [u32], t: usize, op: Operation, flag: bool, d: u32, a: Sou
     }
 }
 
+#[tactic(auto, unfolding(crate::specs::Operation::operate_r))]
 pub fn operate_r(regs: &mut [u32], t: usize, op: Operation, flags: u32, d: u32, a: u32, b: u32)
     requires { InRegisters regs.old t × (d < 64) × (a < 64) × (b < 64) }
     ensures { regs.new ≡ operate_r regs.old t op flags d a b }
@@ -103,6 +98,7 @@ pub fn operate_r(regs: &mut [u32], t: usize, op: Operation, flags: u32, d: u32, 
     operate(regs, t, op, vector::is_on(flags, 2), d, x, y);
 }
 
+#[tactic(auto, unfolding(crate::specs::Operation::operate_i))]
 pub fn operate_i(
     regs: &mut [u32],
     t: usize,

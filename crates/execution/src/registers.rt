@@ -1,10 +1,9 @@
 // The register file of the eight threads, in the lent register file.
-ghost use Rattle.std.specs.Prelude.{◌≡◌, ◌<◌};
-ghost use Rattle.execution.specs.Effect.{advanced};
-ghost use Rattle.execution.specs.Registers.{scalar, vector, with_scalar, with_vector, with_lanes_on, InRegisters};
+ghost use Rattle.std.specs.Prelude.{◌≡◌, ◌+◌, ◌<◌};
+ghost use Rattle.execution.specs.Registers.{scalar, vector, with_scalar, with_vector, with_lanes_on, with_program_counter, InRegisters};
 
-use crate::context::Context;
 use machine::{LANE_MASK, PROGRAM_COUNTER};
+use std::array;
 
 pub fn scalar(regs: &[u32], t: usize, i: u32) -> u32
     requires { InRegisters regs.now t × (i < 64) }
@@ -25,24 +24,22 @@ pub fn vector(regs: &[u32], t: usize, i: u32) -> [u32; 16]
     ensures { result ≡ vector regs.now t i }
 {
     let first = 512 + 1024 * t + 16 * (i as usize);
-    let mut v = [0u32; 16];
-    for j in 0..16usize {
-        v[j] = regs[first + j];
-    }
-    v
+    array::from_fn(|j| regs[first + j])
 }
 
+// Every lane, whatever lanes are on.
 pub fn set_vector(regs: &mut [u32], t: usize, i: u32, v: [u32; 16])
     requires { InRegisters regs.old t × (i < 64) }
     ensures { regs.new ≡ with_vector regs.old t i v }
 {
     let first = 512 + 1024 * t + 16 * (i as usize);
-    for j in 0..16usize {
-        regs[first + j] = v[j];
+    for (j, x) in v.iter().enumerate() {
+        regs[first + j] = *x;
     }
 }
 
 // The lanes that are on.
+#[tactic(auto, unfolding(crate::specs::Registers::with_lanes_on))]
 pub fn set_lanes_on(regs: &mut [u32], t: usize, i: u32, v: [u32; 16])
     requires { InRegisters regs.old t × (i < 64) }
     ensures { regs.new ≡ with_lanes_on regs.old t i v }
@@ -53,9 +50,9 @@ pub fn set_lanes_on(regs: &mut [u32], t: usize, i: u32, v: [u32; 16])
 }
 
 // s63 moves on from the word's own address.
-pub fn advance(regs: &mut [u32], context: Context)
-    requires { InRegisters regs.old context.thread × (context.pc < 65536) }
-    ensures { regs.new ≡ advanced context regs.old }
+pub fn advance(regs: &mut [u32], t: usize, pc: u32)
+    requires { InRegisters regs.old t × (pc < 65536) }
+    ensures { regs.new ≡ with_program_counter regs.old t (pc + 4) }
 {
-    set_scalar(regs, context.thread, PROGRAM_COUNTER, context.pc + 4);
+    set_scalar(regs, t, PROGRAM_COUNTER, pc + 4);
 }

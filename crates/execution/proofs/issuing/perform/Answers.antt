@@ -11,7 +11,7 @@ returns-then-not-in_program c =
     let test = c.in_program in
     let pc = c.scalar-pc in
     let a = c.args in
-    rw c.trap.ensures
+    rw (c.trap.ensures, c.number.ensures)
     (performs-outside a.program.now (state a.machine a.registers.now a.memory.now) a.t a.turns pc.result pc.ensures
     (sym test.ensures ∙ c.if-not-in_program.true))
 
@@ -24,8 +24,8 @@ bounds-program-pc c =
           (sym test.ensures ∙ c.if-not-in_program.false),
     )
 
-pub word-effect-requires : goal.word-effect-requires
-word-effect-requires c =
+pub word-outcome-requires : goal.word-outcome-requires
+word-outcome-requires c =
     let test = c.in_program in
     let pc = c.scalar-pc in (
       search rules,
@@ -54,7 +54,7 @@ settle-requires c =
 -- a word is executed
 pub returns : goal.returns
 returns c =
-    let w = c.word-effect in
+    let w = c.word-outcome in
     let test = c.in_program in
     let pc = c.scalar-pc in
     let a = c.args in
