@@ -11,38 +11,19 @@ use Rattle.twos_complement.specs.Word.{value}
 use Rattle.ordering.specs.Order.{order, bias_of, order_biased, row_of, pick}
 use Rattle.ordering.specs.declared.rows.Kind.{Kind}
 use Rattle.ordering.specs.declared.rows.Kind.TheVariants.{Unsigned, Signed, Float}
-use Rattle.ordering.specs.declared.rows.Ordering.{Ordering}
-use Rattle.ordering.specs.declared.rows.Ordering.TheVariants.{Below, Equal, Above, Unordered}
+use Rattle.std.proofs.Common.{Option, Some, None}
+use Rattle.std.specs.declared.cmp.Ordering.{Ordering}
+use Rattle.std.specs.declared.cmp.Ordering.TheVariants.{Less, Equal, Greater}
 use Rattle.ordering.proofs.Ordered.{unbiased, biased, by_row}
 use Rattle.compares.specs.Outcome.{is_float, flags_of}
 
--- what is picked, by the two tests
-module _ (below equal above : ℕ) where
-  pub picks-below : (o : Ordering) → pick o true false false false ≡ true → below ≡ pick o below equal above above
-  picks-below Below e = refl
-  picks-below Equal e = cc
-  picks-below Above e = cc
-  picks-below Unordered e = cc
-
-  pub picks-equal : (o : Ordering) → pick o false true false false ≡ true → equal ≡ pick o below equal above above
-  picks-equal Below e = cc
-  picks-equal Equal e = refl
-  picks-equal Above e = cc
-  picks-equal Unordered e = cc
-
-  pub picks-above : (o : Ordering) → pick o true false false false ≡ false → pick o false true false false ≡ false → above ≡ pick o below equal above above
-  picks-above Below e f = cc
-  picks-above Equal e f = cc
-  picks-above Above e f = refl
-  picks-above Unordered e f = refl
-
 -- picked as flags, or picked and made flags
-picks-flags : (o : Ordering) (below equal above : Bool) →
+picks-flags : (o : Option Ordering) (below equal above : Bool) →
     pick o (flags_of below) (flags_of equal) (flags_of above) (flags_of above) ≡ flags_of (pick o below equal above above)
-picks-flags Below below equal above = refl
-picks-flags Equal below equal above = refl
-picks-flags Above below equal above = refl
-picks-flags Unordered below equal above = refl
+picks-flags (Some Less) below equal above = refl
+picks-flags (Some Equal) below equal above = refl
+picks-flags (Some Greater) below equal above = refl
+picks-flags None below equal above = refl
 
 pub apart : {A : Type 0} (t : Bool) → t ≡ true → t ≡ false → A
 apart t e f = absurd (let z : ◌≡◌ {A = ℕ} 0 1 = cc in omega arith)
@@ -50,7 +31,7 @@ apart t e f = absurd (let z : ◌≡◌ {A = ℕ} 0 1 = cc in omega arith)
 -- whatever the column of unordered says
 module _ (below equal above unordered : Bool) where
   by_tests : (s t : Bool) →
-      pick (cond s Below (cond t Above Equal)) below equal above above ≡ pick (cond s Below (cond t Above Equal)) below equal above unordered
+      pick (cond s (Some Less) (cond t (Some Greater) (Some Equal))) below equal above above ≡ pick (cond s (Some Less) (cond t (Some Greater) (Some Equal))) below equal above unordered
   by_tests true t = refl
   by_tests false true = refl
   by_tests false false = refl
@@ -72,6 +53,6 @@ pub answered : (op : CompareOp) (x y : ℕ) → is_float (row_of op).kind ≡ fa
     ≡ flags_of (compare op x y)
 answered op x y h hx hy =
     let r = row_of op in
-    ap (λ (o : Ordering). pick o (flags_of r.below) (flags_of r.equal) (flags_of r.above) (flags_of r.above)) (with-bias r.kind x y h hx hy)
+    ap (λ (o : Option Ordering). pick o (flags_of r.below) (flags_of r.equal) (flags_of r.above) (flags_of r.above)) (with-bias r.kind x y h hx hy)
     ∙ picks-flags (order r.kind x y) r.below r.equal r.above
     ∙ ap flags_of (never-unordered r.below r.equal r.above r.unordered r.kind x y h ∙ sym (by_row op x y hx hy))

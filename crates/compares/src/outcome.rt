@@ -1,5 +1,5 @@
 // A compare of sixteen lanes as a bit a lane.
-ghost use Rattle.std.specs.Prelude.{true, false, ◌≡◌};
+ghost use Rattle.std.specs.Prelude.{ℕ, Bool, true, false, ◌≡◌, ◌<◌};
 ghost use Rattle.ordering.specs.declared.rows.Kind.TheVariants.{Float};
 ghost use Rattle.ordering.specs.Compare.{compare};
 ghost use Rattle.ordering.specs.Order.{order, bias_of, row_of, pick};
@@ -8,7 +8,8 @@ ghost use Rattle.compares.specs.Lanes.{mask_below, compare_lanes};
 ghost use Rattle.compares.specs.Outcome.{is_float, flags_of, outcomes_of, answers_of};
 
 use isa::CompareOp;
-use ordering::{CompareRow, Kind, Ordering};
+use ordering::{CompareRow, Kind};
+use std::cmp::Ordering;
 
 // A row of whole numbers as lanes take it: the bias of its kind, and its columns with 16 ones for an outcome that counts as yes, 0 for another.
 #[derive(Clone, Copy)]
@@ -35,61 +36,39 @@ fn bias(kind: Kind) -> u32
     }
 }
 
-fn is_float(kind: Kind) -> bool
-    ensures { result ≡ is_float kind }
-{
-    match kind {
-        Kind::Unsigned => false,
-        Kind::Signed => false,
-        Kind::Float => true,
-    }
-}
-
 fn outcomes_of(row: CompareRow) -> Outcomes
     ensures { result ≡ outcomes_of row }
 {
-    let kind = row.kind;
     Outcomes {
-        bias: bias(kind),
+        bias: bias(row.kind),
         below: flags(row.below),
         equal: flags(row.equal),
         above: flags(row.above),
     }
 }
 
-fn is_below(outcome: Ordering) -> bool
-    ensures { result ≡ pick outcome true false false false }
-{
-    match outcome {
-        Ordering::Below => true,
-        Ordering::Equal => false,
-        Ordering::Above => false,
-        Ordering::Unordered => false,
-    }
-}
-
-fn is_equal(outcome: Ordering) -> bool
-    ensures { result ≡ pick outcome false true false false }
-{
-    match outcome {
-        Ordering::Below => false,
-        Ordering::Equal => true,
-        Ordering::Above => false,
-        Ordering::Unordered => false,
-    }
-}
-
-// Two tests in place of a match on the outcome: the lane loop then has no branch. Whole numbers are never unordered.
+// Whole numbers are never unordered.
 fn select(outcome: Ordering, below: u32, equal: u32, above: u32) -> u32
-    ensures { result ≡ pick outcome below equal above above }
+    ensures { result ≡ pick (Some outcome) below equal above above }
 {
-    if is_below(outcome) {
-        return below;
+    match outcome {
+        Ordering::Less => below,
+        Ordering::Equal => equal,
+        Ordering::Greater => above,
     }
-    if is_equal(outcome) {
-        return equal;
+}
+
+// A bit a lane, of an answer in the bits of all lanes: where `flags_at` is known, the compiler makes vector instructions of the loop.
+pub fn collect<F: Fn(u32, u32) -> u32>(x: [u32; 16], y: [u32; 16], flags_at: F) -> u32
+    requires { F.IsAlwaysCallable flags_at }
+    ensures { (f : ℕ → Bool) → ((j r : ℕ) → j < 16 → F.post flags_at (lane x j) (lane y j) r → r ≡ flags_of (f j)) → result ≡ mask_below 16 f }
+{
+    // By index: j is the lane of both and the bit; zip and enumerate would say the same by three names.
+    let mut r: u32 = 0;
+    for j in 0..16usize {
+        r |= flags_at(x[j], y[j]) & (1 << j);
     }
-    above
+    r
 }
 
 fn answer(op: CompareOp, o: Outcomes, x: u32, y: u32) -> u32
@@ -105,28 +84,25 @@ fn answer(op: CompareOp, o: Outcomes, x: u32, y: u32) -> u32
 }
 
 // The row is looked up outside the loop: one loop serves every compare of whole numbers.
+#[tactic(auto, unfolding(crate::specs::Outcome::answers_of))]
 fn each_integer(op: CompareOp, o: Outcomes, x: [u32; 16], y: [u32; 16]) -> u32
     requires { (o ≡ outcomes_of (row_of op)) × (is_float (row_of op).kind ≡ false) }
     ensures { result ≡ answers_of op x y }
 {
-    let mut r: u32 = 0;
-    for j in 0..16usize {
-        r = r | (answer(op, o, x[j], y[j]) & (1 << j));
-    }
-    r
+    collect(x, y, |a, b| answer(op, o, a, b))
 }
 
 // The answer of two floats, by the columns of a row.
 fn float_answer(below: bool, equal: bool, above: bool, unordered: bool, x: u32, y: u32) -> bool
     ensures { result ≡ pick (order Float x y) below equal above unordered }
 {
-    let outcome = ordering::order(Kind::Float, x, y);
-    match outcome {
-        Ordering::Below => below,
-        Ordering::Equal => equal,
-        Ordering::Above => above,
-        Ordering::Unordered => unordered,
-    }
+    ordering::pick(
+        ordering::order(Kind::Float, x, y),
+        below,
+        equal,
+        above,
+        unordered,
+    )
 }
 
 // The columns go by value: where they are known, the compiler makes one instruction of the three tests.
@@ -140,11 +116,9 @@ fn each_float(
 ) -> u32
     ensures { result ≡ mask_below 16 (λ j. pick (order Float (lane x j) (lane y j)) below equal above unordered) }
 {
-    let mut r: u32 = 0;
-    for j in 0..16usize {
-        r = r | (flags(float_answer(below, equal, above, unordered, x[j], y[j])) & (1 << j));
-    }
-    r
+    collect(x, y, |a, b| {
+        flags(float_answer(below, equal, above, unordered, a, b))
+    })
 }
 
 // The match stands outside the lane loop, each arm with its row's columns.
@@ -153,22 +127,13 @@ fn float_answers(op: CompareOp, x: [u32; 16], y: [u32; 16]) -> u32
     ensures { result ≡ answers_of op x y }
 {
     match op {
-        CompareOp::Eq => 0,
-        CompareOp::Ne => 0,
-        CompareOp::Gt => 0,
-        CompareOp::Ge => 0,
-        CompareOp::Lt => 0,
-        CompareOp::Le => 0,
-        CompareOp::Ugt => 0,
-        CompareOp::Uge => 0,
-        CompareOp::Ult => 0,
-        CompareOp::Ule => 0,
         CompareOp::Feq => each_float(false, true, false, false, x, y),
         CompareOp::Fne => each_float(true, false, true, true, x, y),
         CompareOp::Fgt => each_float(false, false, true, false, x, y),
         CompareOp::Fge => each_float(false, true, true, false, x, y),
         CompareOp::Flt => each_float(true, false, false, false, x, y),
         CompareOp::Fle => each_float(true, true, false, false, x, y),
+        _ => 0,
     }
 }
 
@@ -176,11 +141,10 @@ fn answers(op: CompareOp, x: [u32; 16], y: [u32; 16]) -> u32
     ensures { result ≡ answers_of op x y }
 {
     let row = ordering::compare_row(op);
-    let kind = row.kind;
-    if is_float(kind) {
-        return float_answers(op, x, y);
+    match row.kind {
+        Kind::Float => float_answers(op, x, y),
+        Kind::Unsigned | Kind::Signed => each_integer(op, outcomes_of(row), x, y),
     }
-    each_integer(op, outcomes_of(row), x, y)
 }
 
 pub fn compare_lanes(op: CompareOp, mask: u32, x: [u32; 16], y: [u32; 16]) -> u32

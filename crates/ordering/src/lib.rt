@@ -3,4 +3,4 @@
 
 mod rows;
 
-pub use rows::{CompareRow, Kind, compare, compare_row, order, order_biased};
+pub use rows::{CompareRow, Kind, compare, compare_row, order, order_biased, pick};

@@ -1,56 +1,9 @@
 -- `outcome::float_answers` meets its contract: each arm asks the lanes for the columns of its row; the compares of whole numbers don't come here.
-use mathlib.Core.Path.{sym, ap, ◌∙◌}
-use mathlib.Core.Bool.{Bool}
-use Rattle.isa.specs.declared.instruction.CompareOp.{CompareOp}
-use Rattle.ordering.specs.Order.{row_of}
+use Rattle.std.proofs.Common.{sym, ◌∙◌}
 use Rattle.ordering.proofs.FloatRows.{eq-row, ne-row, gt-row, ge-row, lt-row, le-row}
-use Rattle.compares.specs.Outcome.{is_float, answers_of}
+use Rattle.compares.specs.Outcome.{answers_of}
 use Rattle.compares.proofs.Flags.{same-mask}
-use Rattle.compares.proofs.Picked.{apart}
 use Rattle.compares.proofs.outcome.float_answers.Goals as goal
-
-float : CompareOp → Bool
-float op = is_float (row_of op).kind
-
-pub returns-in-Eq : goal.returns-in-Eq
-unfolding float
-returns-in-Eq c = apart _ c.requires (ap float c.in-Eq.is)
-
-pub returns-in-Ne : goal.returns-in-Ne
-unfolding float
-returns-in-Ne c = apart _ c.requires (ap float c.in-Ne.is)
-
-pub returns-in-Gt : goal.returns-in-Gt
-unfolding float
-returns-in-Gt c = apart _ c.requires (ap float c.in-Gt.is)
-
-pub returns-in-Ge : goal.returns-in-Ge
-unfolding float
-returns-in-Ge c = apart _ c.requires (ap float c.in-Ge.is)
-
-pub returns-in-Lt : goal.returns-in-Lt
-unfolding float
-returns-in-Lt c = apart _ c.requires (ap float c.in-Lt.is)
-
-pub returns-in-Le : goal.returns-in-Le
-unfolding float
-returns-in-Le c = apart _ c.requires (ap float c.in-Le.is)
-
-pub returns-in-Ugt : goal.returns-in-Ugt
-unfolding float
-returns-in-Ugt c = apart _ c.requires (ap float c.in-Ugt.is)
-
-pub returns-in-Uge : goal.returns-in-Uge
-unfolding float
-returns-in-Uge c = apart _ c.requires (ap float c.in-Uge.is)
-
-pub returns-in-Ult : goal.returns-in-Ult
-unfolding float
-returns-in-Ult c = apart _ c.requires (ap float c.in-Ult.is)
-
-pub returns-in-Ule : goal.returns-in-Ule
-unfolding float
-returns-in-Ule c = apart _ c.requires (ap float c.in-Ule.is)
 
 pub returns-in-Feq : goal.returns-in-Feq
 unfolding answers_of
