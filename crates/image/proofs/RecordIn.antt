@@ -1,12 +1,11 @@
 -- The machine record that an image holds, found at its fixed places.
-use Prim.Native.Nat.{ℕ, ◌+◌, ◌*◌, ◌/◌, ◌%◌, ◌≤◌, ◌<◌}
+use Prim.Native.Nat.{ℕ, ◌+◌, ◌*◌, ◌≤◌, ◌<◌}
 use mathlib.Core.Bool.{Bool, true, false, ◌&&◌}
 use mathlib.Core.List.{List, [], ◌∷◌}
 use mathlib.Core.Path.{◌≡◌, refl, sym, ap, ◌∙◌}
 use native.Mathlib.Omega.{arith}
 use native.Mathlib.Nat.{le_of_eq}
 use lib.ListN.{length, get_or, take, drop, length-drop}
-use Rattle.std.proofs.lemmas.Nat.{from_le_bytes-to_le_bytes_4}
 use lib.Seq.{get_or-drop, get_or-take, length-take-le}
 use Rattle.answer.specs.Answer.{Answer, given, refused, bad-record}
 use Rattle.image_layout.proofs.Join.{grown-whole, length-even}
@@ -21,7 +20,7 @@ use Rattle.image.specs.Answer.{given_if}
 use Rattle.image.specs.Fields.{fields, thread_of}
 use Rattle.machine.specs.WellFormed.{well_formed}
 use Rattle.image.specs.Image.{fields_in, is_entry, entry_or, entry_in, threads_in, machine_in, record_in}
-use Rattle.image.specs.Types.{Hd, Ti, Form, Newest, Old, Shape, Kind, Thread, Machine}
+use Rattle.image.specs.Types.{Hd, Ti, Form, Shape, Kind, Thread, Machine}
 
 -- a byte of a part
 pub part-byte : (l : List ℕ) (at w k : ℕ) → k < w → get_or (take w (drop at l)) k 0 ≡ get_or l (at + k) 0
@@ -31,14 +30,14 @@ pub part-first : (l : List ℕ) (at w : ℕ) → 0 < w → get_or (take w (drop 
 part-first l at w h = part-byte l at w 0 h ∙ ap (λ z. get_or l z 0) (let z : at + 0 ≡ at = omega arith in z)
 
 -- the count of turns in an entry's bytes, and past the end of those of the old form
-turns-newest : (l : List ℕ) (at : ℕ) → number_at 4 l (at + 4) ≡ number_at 4 (take 8 (drop at l)) 4
+pub turns-newest : (l : List ℕ) (at : ℕ) → number_at 4 l (at + 4) ≡ number_at 4 (take 8 (drop at l)) 4
 turns-newest l at = sym (cut 4 8 (drop at l) 4 (omega arith) ∙ behind 4 l at 4)
 
-turns-old : (l : List ℕ) (at : ℕ) → at + 4 ≤ length l → 0 ≡ number_at 4 (take 4 (drop at l)) 4
+pub turns-old : (l : List ℕ) (at : ℕ) → at + 4 ≤ length l → 0 ≡ number_at 4 (take 4 (drop at l)) 4
 turns-old l at h = sym (past_end 4 (take 4 (drop at l)) 4 (le_of_eq (length-take-le 4 (drop at l) (rw (length-drop at l) (omega arith)))))
 
 -- the numbers of the entry at a place
-fields_at : (f : Form) (l : List ℕ) (at turns : ℕ) → turns ≡ number_at 4 (take (thread_row f).size (drop at l)) 4
+pub fields_at : (f : Form) (l : List ℕ) (at turns : ℕ) → turns ≡ number_at 4 (take (thread_row f).size (drop at l)) 4
     → fields (get_or l at 0) (get_or l (at + 1) 0) (get_or l (at + 2) 0) (get_or l (at + 3) 0) turns ≡ fields_in (take (thread_row f).size (drop at l))
 fields_at f l at turns e =
     let w = (thread_row f).size in
@@ -47,64 +46,6 @@ fields_at f l at turns e =
     let p2 = sym (part-byte l at w 2 (omega (arith, entry-least f))) in
     let p3 = sym (part-byte l at w 3 (omega (arith, entry-least f))) in
     (λ i. fields (p0 i) (p1 i) (p2 i) (p3 i) (e i))
-
--- an entry's bytes as one number, and the numbers taken from it
-low : (x m : ℕ) → x < 256 → (x + 256 * m) % 256 ≡ x
-low x m h = omega arith
-
-high : (x m : ℕ) → x < 256 → (x + 256 * m) / 256 ≡ m
-high x m h = omega arith
-
-taken-apart : (x y z w r n : ℕ) → x < 256 → y < 256 → z < 256 → w < 256 → n ≡ x + 256 * (y + 256 * (z + 256 * (w + 256 * r)))
-    → fields (n % 256) (n / 256 % 256) (n / 256 / 256 % 256) (n / 256 / 256 / 256 % 256) (n / 256 / 256 / 256 / 256) ≡ fields x y z w r
-taken-apart x y z w r n a b c d e =
-    let p : n / 256 ≡ y + 256 * (z + 256 * (w + 256 * r)) = ap (λ k. k / 256) e ∙ high x _ a in
-    let q : n / 256 / 256 ≡ z + 256 * (w + 256 * r) = ap (λ k. k / 256) p ∙ high y _ b in
-    let s : n / 256 / 256 / 256 ≡ w + 256 * r = ap (λ k. k / 256) q ∙ high z _ c in
-    let t : n / 256 / 256 / 256 / 256 ≡ r = ap (λ k. k / 256) s ∙ high w r d in
-    let f = ap (λ k. k % 256) e ∙ low x _ a in
-    let g = ap (λ k. k % 256) p ∙ low y _ b in
-    let h = ap (λ k. k % 256) q ∙ low z _ c in
-    let k = ap (λ k. k % 256) s ∙ low w r d in
-    (λ i. fields (f i) (g i) (h i) (k i) (t i))
-
-module _ (l : List ℕ) (at n : ℕ) (b : (k : ℕ) → get_or l k 0 < 256) where
-  four-of-entry : (r : ℕ) → n ≡ get_or l at 0 + 256 * (get_or l (at + 1) 0 + 256 * (get_or l (at + 1 + 1) 0 + 256 * (get_or l (at + 1 + 1 + 1) 0 + 256 * r)))
-      → fields (n % 256) (n / 256 % 256) (n / 256 / 256 % 256) (n / 256 / 256 / 256 % 256) (n / 256 / 256 / 256 / 256)
-      ≡ fields (get_or l at 0) (get_or l (at + 1) 0) (get_or l (at + 2) 0) (get_or l (at + 3) 0) r
-  four-of-entry r e =
-      let y : at + 1 + 1 ≡ at + 2 = omega arith in
-      let z : at + 1 + 1 + 1 ≡ at + 3 = omega arith in
-      taken-apart _ _ _ _ r n (b at) (b (at + 1)) (b (at + 1 + 1)) (b (at + 1 + 1 + 1)) e
-      ∙ (λ i. fields (get_or l at 0) (get_or l (at + 1) 0) (get_or l (y i) 0) (get_or l (z i) 0) r)
-
-  pub entry-number : (f : Form) → at + (thread_row f).size ≤ length l → n ≡ number_at (thread_row f).size l at
-      → fields (n % 256) (n / 256 % 256) (n / 256 / 256 % 256) (n / 256 / 256 / 256 % 256) (n / 256 / 256 / 256 / 256) ≡ fields_in (take (thread_row f).size (drop at l))
-  unfolding number_at
-  entry-number Newest h e =
-      let z : at + 1 + 1 + 1 + 1 ≡ at + 4 = omega arith in
-      four-of-entry (number_at 4 l (at + 1 + 1 + 1 + 1)) e ∙ fields_at Newest l at (number_at 4 l (at + 1 + 1 + 1 + 1)) (ap (number_at 4 l) z ∙ turns-newest l at)
-  entry-number Old h e = four-of-entry 0 e ∙ fields_at Old l at 0 (turns-old l at h)
-
--- the numbers taken from the eight bytes of one
-pub entry-bytes : (n : ℕ) (l : List ℕ) (turns : ℕ) → n < 18446744073709551616
-    → l ≡ n % 256 ∷ n / 256 % 256 ∷ n / 65536 % 256 ∷ n / 16777216 % 256 ∷ n / 4294967296 % 256 ∷ n / 1099511627776 % 256 ∷ n / 281474976710656 % 256 ∷ n / 72057594037927936 % 256 ∷ []
-    → turns ≡ get_or l 4 0 + get_or l 5 0 * 256 + get_or l 6 0 * 65536 + get_or l 7 0 * 16777216
-    → fields (get_or l 0 0) (get_or l 1 0) (get_or l 2 0) (get_or l 3 0) turns ≡ fields (n % 256) (n / 256 % 256) (n / 256 / 256 % 256) (n / 256 / 256 / 256 % 256) (n / 256 / 256 / 256 / 256)
-entry-bytes n l turns h e t =
-    let m = n / 4294967296 in
-    let p : n / 65536 ≡ n / 256 / 256 = omega arith in
-    let q : n / 16777216 ≡ n / 256 / 256 / 256 = omega arith in
-    let r : m ≡ n / 256 / 256 / 256 / 256 = omega arith in
-    let five : n / 1099511627776 ≡ m / 256 = omega arith in
-    let six : n / 281474976710656 ≡ m / 65536 = omega arith in
-    let seven : n / 72057594037927936 ≡ m / 16777216 = omega arith in
-    let few : m < 4294967296 = omega arith in
-    let sum : m % 256 + n / 1099511627776 % 256 * 256 + n / 281474976710656 % 256 * 65536 + n / 72057594037927936 % 256 * 16777216 ≡ m = rw (five, six, seven) (from_le_bytes-to_le_bytes_4 m few) in
-    let all = t ∙ (ap (λ z. get_or z 4 0 + get_or z 5 0 * 256 + get_or z 6 0 * 65536 + get_or z 7 0 * 16777216) e ∙ (sum ∙ r)) in
-    let third = ap (λ z. get_or z 2 0) e ∙ ap (λ z. z % 256) p in
-    let fourth = ap (λ z. get_or z 3 0) e ∙ ap (λ z. z % 256) q in
-    (λ i. fields (get_or (e i) 0 0) (get_or (e i) 1 0) (third i) (fourth i) (all i))
 
 -- Fixed places.
 

@@ -1,16 +1,16 @@
 -- Lists of words and their bytes are inverse, and both loops over them.
-use Prim.Native.Nat.{ℕ, zero, suc, ◌+◌, ◌*◌, ◌/◌, ◌%◌, ◌^◌, ◌≤◌, ◌<◌}
+use Prim.Native.Nat.{ℕ, zero, suc, ◌+◌, ◌*◌, ◌≤◌, ◌<◌}
 use mathlib.Core.List.{List, [], ◌∷◌, ◌++◌, append_assoc, append-nil}
 use mathlib.Core.Path.{◌≡◌, refl, sym, ap, ◌∙◌}
 use native.Mathlib.Nat.{add-zero}
-use native.Mathlib.Numerals.{add-one}
 use native.Mathlib.Omega.{arith}
-use lib.Pow.{pow-add, pow_mono}
-use lib.ListN.{length, get_or, take, drop, set, length-drop}
-use lib.Seq.{get_or-drop, drop-drop, length-take-le, take_all, take-suc}
+use lib.ListN.{length, get_or, take, drop, set, length-append, length-drop}
+use lib.Seq.{get_or-drop, drop-drop, length-take-le, take_all}
 use Rattle.image_layout.proofs.Join.{grown-none, grown-one, grown-more, grown-same, grown-new}
 use Rattle.image_layout.proofs.Parts.{concat_below-same, concat_below-read, read-concat_below, piece-even, pieces-even}
 use Rattle.image_layout.specs.Join.{concat_below, Grown}
+use Rattle.std.proofs.lemmas.Slice.{take-put_mid}
+use borrow.Rule.Slice.PartMut.{put_mid}
 use Rattle.little_endian.proofs.Numbers.{behind, cut, part, bytes-length, word_back, bytes_back}
 use Rattle.little_endian.specs.Numbers.{number_at, number_bytes, bytes_of, words_of}
 
@@ -34,6 +34,16 @@ grown-four l at a b c d h =
     let g6 = grown-more g4 g5 in
     let g7 = grown-same (at + 4) (omega arith) (grown-one (set (set (set l at a) (at + 1) b) (at + 2) c) (at + 3) d (omega (arith, g6.size))) in
     grown-more g6 g7
+
+-- a part of a list written at once
+pub grown-put : {A : Type 0} {l ys : List A} {k p : ℕ} (at : ℕ) (new : List A) → ys ≡ new → at + k ≤ length l → length new ≡ k → p ≡ at + k → Grown l (put_mid at k l ys) at p new
+grown-put {A = A} {l = l} {ys = ys} {k = k} {p = p} at new e room long next =
+    let g : Grown l (put_mid at k l new) at p new = record {
+      size = omega (arith, length-append (take at l) (new ++ drop k (drop at l)), length-append new (drop k (drop at l)), length-take-le at l (omega arith), length-drop k (drop at l), length-drop at l);
+      next = omega arith;
+      kept = take-put_mid at k l new p (omega arith) (omega arith);
+    } in
+    rw e g
 
 -- two
 pub grown-two : (l : List ℕ) (at a b : ℕ) → at + 2 ≤ length l → Grown l (set (set l at a) (at + 1) b) at (at + 2) (a ∷ b ∷ [])
@@ -61,31 +71,6 @@ pub words-none : {l : List ℕ} (from : ℕ) (bytes : List ℕ) → Grown l l fr
 unfolding words_of
 words-none {l = l} from bytes = grown-same (from + 0) (omega arith) (grown-none l from)
 
--- the bytes of a number, from the first on
-pub number-none : (l : List ℕ) (at n w : ℕ) → Grown l l at (at + 0) (take 0 (number_bytes n w))
-number-none l at n w = grown-same (at + 0) (omega arith) (grown-none l at)
-
--- a number's bytes, one after the other: what is left of them is the bytes of what is left of the number
-pub number-next : (l : List ℕ) (j m rest : ℕ) → drop j l ≡ number_bytes (suc m) rest → (get_or l j 0 ≡ rest % 256) × (drop (j + 1) l ≡ number_bytes m (rest / 256))
-unfolding number_bytes
-number-next l j m rest e =
-    let z : j ≡ j + 0 = omega arith in
-    (ap (λ k. get_or l k 0) z ∙ (sym (get_or-drop j l 0 0) ∙ ap (λ x. get_or x 0 0) e), sym (drop-drop 1 j l) ∙ ap (drop 1) e)
-
--- a number's bytes from the highest on: one more, and how large the number can be
-pub number_more : (l : List ℕ) (p q j : ℕ) → p + 1 ≡ q → get_or l p 0 + 256 * number_at j l q ≡ number_at (j + 1) l p
-unfolding number_at
-number_more l p q j e = sym (ap (λ n. number_at n l p) (add-one j) ∙ ap (λ z. get_or l p 0 + 256 * number_at j l z) e)
-
-pub number-few : (x m j : ℕ) → x < 256 → m < 2 ^ (8 * j) → x + 256 * m < 2 ^ (8 * (j + 1))
-number-few x m j h k =
-    let z : 8 * (j + 1) ≡ 8 + 8 * j = omega arith in
-    let e : 2 ^ (8 * (j + 1)) ≡ 256 * 2 ^ (8 * j) = ap (λ n. 2 ^ n) z ∙ pow-add 2 8 (8 * j) in
-    omega (arith, e)
-
-pub seven-few : (m j : ℕ) → m < 2 ^ (8 * j) → j < 8 → m < 2 ^ 56
-seven-few m j h k = let z : 2 ^ (8 * j) ≤ 2 ^ 56 = pow_mono {i = 8 * j} {j = 56} (omega arith) in omega (arith, z)
-
 -- four words stored one after the other
 pub four-put : {l r s t u : List ℕ} (at from : ℕ) (words : List ℕ) → Grown l r at (at + 4) (number_bytes 4 (get_or words from 0))
     → Grown r s (at + 4) (at + 4 + 4) (number_bytes 4 (get_or words (from + 1) 0)) → Grown s t (at + 8) (at + 8 + 4) (number_bytes 4 (get_or words (from + 2) 0))
@@ -100,26 +85,14 @@ four-put at from words f g h k =
     (grown-same {p = at + 12 + 4} (at + 16) (omega arith) (grown-more three k))
 
 -- four words taken
-pub four-taken : (l : List ℕ) (from at a b c d : ℕ) (bytes : List ℕ) → from + 4 ≤ length l
+pub four-taken : (at a b c d : ℕ) (bytes : List ℕ)
     → a ≡ number_at 4 bytes at → b ≡ number_at 4 bytes (at + 4) → c ≡ number_at 4 bytes (at + 8) → d ≡ number_at 4 bytes (at + 12)
-    → Grown l (set (set (set (set l from a) (from + 1) b) (from + 2) c) (from + 3) d) from (from + 4) (words_of 4 (drop at bytes))
+    → a ∷ b ∷ c ∷ d ∷ [] ≡ words_of 4 (drop at bytes)
 unfolding words_of
-four-taken l from at a b c d bytes room e f g h =
+four-taken at a b c d bytes e f g h =
     let first : a ≡ number_at 4 (drop at bytes) 0 = e ∙ (ap (number_at 4 bytes) (let z : at ≡ at + 0 = omega arith in z) ∙ sym (behind 4 bytes at 0)) in
     let k : (n : ℕ) → number_at 4 bytes (at + n) ≡ number_at 4 (drop at bytes) n = λ n. sym (behind 4 bytes at n) in
-    grown-new (λ i. first i ∷ (f ∙ k 4) i ∷ (g ∙ k 8) i ∷ (h ∙ k 12) i ∷ []) (grown-four l from a b c d room)
-
--- one more of the bytes of another list
-pub grown-part : {l r : List ℕ} (at k : ℕ) (m : List ℕ) → Grown l r at (at + k) (take k m) → k < length m → at + k < length r
-    → Grown l (set r (at + k) (get_or m k 0)) at (at + (k + 1)) (take (k + 1) m)
-grown-part {r = r} at k m g h t = rw (add-one k, take-suc m k 0 h) (grown-same (at + suc k) (omega arith) (grown-more g (grown-one r (at + k) (get_or m k 0) t)))
-
--- the same of the bytes from a place of another list, into the beginning of one
-pub grown-copied : {l r : List ℕ} (p k : ℕ) (m : List ℕ) → Grown l r 0 k (take k (drop p m)) → p + k < length m → k < length r
-    → Grown l (set r k (get_or m (p + k) 0)) 0 (k + 1) (take (k + 1) (drop p m))
-grown-copied {r = r} p k m g h t =
-    let e : k < length (drop p m) = rw (length-drop p m) (omega arith) in
-    rw (add-one k, take-suc (drop p m) k 0 e, get_or-drop p m k 0) (grown-same (suc k) (omega arith) (grown-more g (grown-one r k (get_or m (p + k) 0) t)))
+    (λ i. first i ∷ (f ∙ k 4) i ∷ (g ∙ k 8) i ∷ (h ∙ k 12) i ∷ [])
 
 -- so many, and then more
 bytes-add : (a b : ℕ) (words : List ℕ) → bytes_of (a + b) words ≡ bytes_of a words ++ bytes_of b (drop a words)

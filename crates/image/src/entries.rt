@@ -6,27 +6,28 @@ ghost use Rattle.image.specs.Answer.{answered, given_if};
 ghost use Rattle.image.specs.Fields.{thread_of};
 ghost use Rattle.image.specs.Image.{fields_in, is_entry, entry_in, threads_in, machine_in, record_in};
 
-use crate::bytes::number_at;
+use crate::bytes::word_at;
 use crate::fields::ThreadFields;
 use answer::Refusal;
-use image_layout::{Form, Kind, Shape, first_body, record_size, row_of, thread_row};
+use image_layout::{Form, Kind, Shape, first_body, record_size, row_of};
 use machine::Machine;
 use thread_entry::{Status, Thread};
 
-// The entry whose numbers stand at a place: one number, whose bytes they are. The old form has no byte of the count of turns, which then
-// is 0.
+// The entry whose numbers stand at a place. The old form has no count of turns, which then is 0.
 fn entry_at(form: Form, image: &[u8], at: usize) -> Result<Thread, Refusal>
     requires { at + (thread_row form).size ≤ length image.now }
     ensures { answered result ≡ thread_of (fields_in (take (thread_row form).size (drop at image.now))) }
 {
-    let number = number_at(image, at, thread_row(form).size as usize);
-    let [status, reason, id, count, t0, t1, t2, t3] = number.to_le_bytes();
+    let turns = match form {
+        Form::Newest => word_at(image, at + 4),
+        Form::Old => 0,
+    };
     Thread::try_from(ThreadFields {
-        status,
-        reason,
-        id,
-        count,
-        turns: u32::from_le_bytes([t0, t1, t2, t3]),
+        status: image[at],
+        reason: image[at + 1],
+        id: image[at + 2],
+        count: image[at + 3],
+        turns,
     })
 }
 

@@ -38,19 +38,17 @@ pub fn put_head(row: RecordRow, i: usize, buffer: &mut [u8], at: usize) -> usize
     requires { Numbered row.places i × (at + head_length row.places ≤ length buffer.old) }
     ensures { Grown buffer.old buffer.new at result (head_of row i) }
 {
-    let places = row.places;
     buffer[at] = row.first;
     buffer[at + 1] = row.second;
-    put_places(places, i, buffer, at + 2)
+    put_places(row.places, i, buffer, at + 2)
 }
 
 // Whether four bytes stand at a place: they are compared as one word.
-fn four_stand(first: u8, second: u8, third: u8, fourth: u8, image: &[u8], at: usize) -> bool
+fn four_stand(four: [u8; 4], image: &[u8], at: usize) -> bool
     requires { at + 4 ≤ length image.now }
-    ensures { result ≡ stands_at (first ∷ second ∷ third ∷ fourth ∷ []) image.now at }
+    ensures { result ≡ stands_at four image.now at }
 {
-    let word = first as u32 + 256 * second as u32 + 65536 * third as u32 + 16777216 * fourth as u32;
-    word_at(image, at) == word
+    word_at(image, at) == u32::from_le_bytes(four)
 }
 
 // Whether record i of a row opens so at a place.
@@ -58,26 +56,16 @@ fn opens_so(row: RecordRow, i: usize, image: &[u8], at: usize) -> bool
     requires { Numbered row.places i × (at + head_length row.places ≤ length image.now) }
     ensures { result ≡ stands_at (head_of row i) image.now at }
 {
-    let places = row.places;
-    match places {
-        Places::Nothing => head_stands(row, i, image, at),
-        Places::ByThread => head_stands(row, i, image, at),
-        Places::ByRegister => four_stand(
-            row.first,
-            row.second,
-            (i / 64) as u8,
-            (i % 64) as u8,
-            image,
-            at,
-        ),
-        Places::ByBlock => four_stand(
-            row.first,
-            row.second,
-            (i % 256) as u8,
-            (i / 256) as u8,
-            image,
-            at,
-        ),
+    match row.places {
+        Places::Nothing | Places::ByThread => head_stands(row, i, image, at),
+        Places::ByRegister => {
+            let four = [row.first, row.second, (i / 64) as u8, (i % 64) as u8];
+            four_stand(four, image, at)
+        }
+        Places::ByBlock => {
+            let four = [row.first, row.second, (i % 256) as u8, (i / 256) as u8];
+            four_stand(four, image, at)
+        }
     }
 }
 
@@ -86,12 +74,10 @@ fn heads_stand(row: RecordRow, image: &[u8], at: usize) -> bool
     requires { AllNumbered row × (at + extent_of row ≤ length image.now) }
     ensures { result ≡ heads_of row image.now at }
 {
-    let count = row.count;
     let size = record_size(row);
     let mut p = at;
-    for i in 0..count {
-        let stands = opens_so(row, i, image, p);
-        if !stands {
+    for i in 0..row.count {
+        if !opens_so(row, i, image, p) {
             return false;
         }
         p += size;
@@ -107,8 +93,7 @@ pub fn kinds_stand(shape: Shape, n: usize, image: &[u8]) -> bool
     let mut at: usize = 0;
     for position in 0..n {
         let kind = kind_at(position);
-        let stands = heads_stand(row_of(shape, kind), image, at);
-        if !stands {
+        if !heads_stand(row_of(shape, kind), image, at) {
             return false;
         }
         at += extent_of(shape, kind);

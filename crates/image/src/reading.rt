@@ -19,11 +19,10 @@ fn take_bodies(shape: Shape, kind: Kind, n: usize, image: &[u8], registers: &mut
     ensures { Grown registers.old registers.new from (from + 4 * n * (row_of shape kind).count) (words_in shape image.now kind (4 * n)) }
 {
     let row = row_of(shape, kind);
-    let count = row.count;
     let size = record_size(row);
     let mut at = first_body(shape, kind);
     let mut next = from;
-    for i in 0..count {
+    for i in 0..row.count {
         take_words(image, at, n, registers, next);
         at += size;
         next += 4 * n;
@@ -45,11 +44,10 @@ fn take_memory(shape: Shape, image: &[u8], memory: &mut [u8])
     ensures { memory.new ≡ memory_in shape image.now }
 {
     let row = row_of(shape, Kind::Mm);
-    let count = row.count;
     let size = record_size(row);
     let mut at = first_body(shape, Kind::Mm);
     let mut next: usize = 0;
-    for i in 0..count {
+    for i in 0..row.count {
         copy_sixteens(image, at, 4, memory, next);
         at += size;
         next += 64;

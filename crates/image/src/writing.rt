@@ -6,12 +6,12 @@ ghost use Rattle.image_layout.specs.Layout.{thread_row, row_of, record_size, ext
 ghost use Rattle.image.specs.Calls.{written, write_as, write, write_old};
 ghost use Rattle.image.specs.Image.{Suits, SuitsUpTo, status_bytes, field_bytes, body_of};
 
-use crate::bytes::{copy_sixteens, put_number, put_words};
+use crate::bytes::{copy_sixteens, put_word, put_words};
 use crate::fields::ThreadFields;
 use crate::heads::put_head;
 use crate::verdicts::judge_record;
 use answer::{Refusal, sizes_verdict};
-use image_layout::{Form, KINDS, Kind, Shape, count_at, fixed_part, kind_at, row_of, thread_row};
+use image_layout::{Form, KINDS, Kind, Shape, count_at, fixed_part, kind_at, row_of};
 use machine::Machine;
 
 // The numbers of an entry's status stored from a place on.
@@ -19,10 +19,8 @@ fn put_status(fields: ThreadFields, buffer: &mut [u8], at: usize)
     requires { at + 4 ≤ length buffer.old }
     ensures { Grown buffer.old buffer.new at (at + 4) (status_bytes fields) }
 {
-    buffer[at] = fields.status;
-    buffer[at + 1] = fields.reason;
-    buffer[at + 2] = fields.id;
-    buffer[at + 3] = fields.count;
+    let status = [fields.status, fields.reason, fields.id, fields.count];
+    buffer[at..at + 4].copy_from_slice(&status);
 }
 
 // An entry's numbers, as far as a form has them, stored from a place on; the next place.
@@ -30,10 +28,14 @@ fn put_fields(form: Form, fields: ThreadFields, buffer: &mut [u8], at: usize) ->
     requires { at + (thread_row form).size ≤ length buffer.old }
     ensures { Grown buffer.old buffer.new at result (field_bytes form fields) }
 {
-    let size = thread_row(form).size as usize;
     put_status(fields, buffer, at);
-    put_number(fields.turns, size - 4, buffer, at + 4);
-    at + size
+    match form {
+        Form::Newest => {
+            put_word(fields.turns, buffer, at + 4);
+            at + 8
+        }
+        Form::Old => at + 4,
+    }
 }
 
 // What stands behind the place numbers of record i, stored from a place on; the next place.

@@ -1,18 +1,12 @@
 -- `bytes::put_word` meets its contract.
-use lib.ListN.{length-set}
-use Rattle.image.proofs.Words.{grown-four}
-use Rattle.little_endian.proofs.Numbers.{four_bytes}
+use mathlib.Core.Path.{sym, ◌∙◌}
 use native.Mathlib.Omega.{arith}
+use Rattle.image.proofs.Words.{grown-put}
+use Rattle.little_endian.specs.Numbers.{number_bytes}
+use Rattle.little_endian.proofs.Numbers.{four_bytes, bytes-length}
 use Rattle.image.proofs.bytes.put_word.Goals as goal
 
-pub bounds-buffer-at-2 : goal.bounds-buffer-at-2
-bounds-buffer-at-2 c = simp length-set (omega arith)
-
-pub bounds-buffer-at-3 : goal.bounds-buffer-at-3
-bounds-buffer-at-3 c = simp length-set (omega arith)
-
-pub bounds-buffer-at-4 : goal.bounds-buffer-at-4
-bounds-buffer-at-4 c = simp length-set (omega arith)
-
 pub returns : goal.returns
-returns c = rw (four_bytes c.args.word) (grown-four c.args.buffer.now c.args.at _ _ _ _ c.requires)
+returns c =
+    let a = c.args in
+    grown-put a.at (number_bytes 4 a.word) (c.copy_from_slice.ensures.after ∙ (c.to_le_bytes.ensures ∙ sym (four_bytes a.word))) (omega arith) (omega (arith, bytes-length 4 a.word)) (omega arith)

@@ -7,21 +7,21 @@ use Rattle.image.proofs.bytes.take_words.Goals as goal
 pub take_four-requires : goal.take_four-requires
 take_four-requires c =
     let l = c.loop-j in
-    (omega (arith, c.loop-j-test.true, c.requires.0), omega (arith, c.loop-j-test.true, c.requires.1, l.invariant.1.size))
+    (omega (arith, c.loop-j-test.true, c.requires.0), omega (arith, c.loop-j-test.true, c.requires.1, l.invariant.size))
 
 pub loop-j-preserved : goal.loop-j-preserved
 loop-j-preserved c =
     let a = c.args in
     let l = c.loop-j in
-    (omega (arith, c.loop-j-test.true), words-fours a.from a.at l.j a.image.now l.invariant.1 c.take_four.ensures)
+    words-fours a.from a.at l.j a.image.now l.invariant c.take_four.ensures
 
 pub returns : goal.returns
 returns c =
-    let e : c.loop-j.j ≡ c.args.n = omega (arith, c.loop-j.invariant.0, c.loop-j-test.false) in
-    rw e at c.loop-j.invariant.1
+    let e : c.loop-j.j ≡ c.args.n = omega (arith, c.loop-j.auto.j-end, c.loop-j-test.false) in
+    rw e at c.loop-j.invariant
 
 pub loop-j-init : goal.loop-j-init
-loop-j-init c = (omega arith, words-none _ _)
+loop-j-init c = words-none _ _
 
 pub shape_of-registers : goal.shape_of-registers
-shape_of-registers c = c.loop-j.invariant.1.size
+shape_of-registers c = c.loop-j.invariant.size

@@ -6,4 +6,4 @@ use Rattle.image.proofs.bytes.word_at.Goals as goal
 
 pub returns : goal.returns
 unfolding number_at
-returns c = simp (add-zero, add_assoc) (omega arith)
+returns c = simp (add-zero, add_assoc) (omega (arith, c.from_le_bytes.ensures))

@@ -1,5 +1,4 @@
 -- `heads::heads_stand` meets its contract.
-use Prim.Native.Nat.{◌-◌, ◌≤◌}
 use mathlib.Core.Bool.{true}
 use mathlib.Core.Path.{◌≡◌}
 use Rattle.image_layout.specs.Join.{all_below}
@@ -7,7 +6,4 @@ use Rattle.image_layout.specs.Layout.{head_of, record_at, stands_at}
 use Rattle.image.proofs.heads.heads_stand.Given as goal
 
 abbrev pub invariant-loop-i : goal.invariant-loop-i
-invariant-loop-i l = (l.i ≤ l.count) × (l.p ≡ record_at l.row l.at l.i) × (all_below l.i (λ k. stands_at (head_of l.row k) l.image (record_at l.row l.at k)) ≡ true)
-
-abbrev pub decreases-loop-i : goal.decreases-loop-i
-decreases-loop-i l = l.count - l.i
+invariant-loop-i l = (l.p ≡ record_at l.row l.at l.i) × (all_below l.i (λ k. stands_at (head_of l.row k) l.image (record_at l.row l.at k)) ≡ true)

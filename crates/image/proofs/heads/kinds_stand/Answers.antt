@@ -8,27 +8,27 @@ use Rattle.image.proofs.Bodies.{numbered}
 use native.Mathlib.Omega.{arith}
 use Rattle.image.proofs.heads.kinds_stand.Goals as goal
 
-pub heads_stand-stands-requires : goal.heads_stand-stands-requires
-heads_stand-stands-requires c =
+pub heads_stand-requires : goal.heads_stand-requires
+heads_stand-requires c =
     let a = c.args in
     let l = c.loop-position in
     let e = c.row_of.ensures ∙ ap (row_of a.shape) c.kind_at-kind.ensures in
-    rw e (numbered a.shape (omega arith) (kind_at l.position), omega (arith, l.invariant.1, start-room a.shape l.position a.n c.loop-position-test.true, c.requires))
+    rw e (numbered a.shape (omega arith) (kind_at l.position), omega (arith, l.invariant.0, start-room a.shape l.position a.n c.loop-position-test.true, c.requires))
 
-pub returns-then-not-stands : goal.returns-then-not-stands
-returns-then-not-stands c =
+pub returns-then-not-heads_stand : goal.returns-then-not-heads_stand
+returns-then-not-heads_stand c =
     let a = c.args in
     let l = c.loop-position in
     let e = c.row_of.ensures ∙ ap (row_of a.shape) c.kind_at-kind.ensures in
-    let f = sym c.heads_stand-stands.ensures ∙ c.if-not-stands.true in
-    sym (all-less a.n l.position (λ q. heads_of (row_of a.shape (kind_at q)) a.image.now (start_of a.shape q)) c.loop-position-test.true (rw (← l.invariant.1, ← e) f))
+    let f = sym c.heads_stand.ensures ∙ c.if-not-heads_stand.true in
+    sym (all-less a.n l.position (λ q. heads_of (row_of a.shape (kind_at q)) a.image.now (start_of a.shape q)) c.loop-position-test.true (rw (← l.invariant.0, ← e) f))
 
 pub overflow_add-at : goal.overflow_add-at
 overflow_add-at c =
     let a = c.args in
     let l = c.loop-position in
     let e : c.extent_of-at.result ≡ extent_of (row_of a.shape (kind_at l.position)) = c.extent_of-at.ensures ∙ ap (λ k. extent_of (row_of a.shape k)) c.kind_at-kind.ensures in
-    omega (arith, e, l.invariant.1, start-room a.shape l.position a.n c.loop-position-test.true, c.requires)
+    omega (arith, e, l.invariant.0, start-room a.shape l.position a.n c.loop-position-test.true, c.requires)
 
 pub loop-position-preserved : goal.loop-position-preserved
 loop-position-preserved c =
@@ -37,20 +37,16 @@ loop-position-preserved c =
     let k = c.kind_at-kind.ensures in
     let e : c.extent_of-at.result ≡ extent_of (row_of a.shape (kind_at l.position)) = c.extent_of-at.ensures ∙ ap (λ k. extent_of (row_of a.shape k)) k in
     let r = c.row_of.ensures ∙ ap (row_of a.shape) k in
-    let f = sym c.heads_stand-stands.ensures ∙ c.if-not-stands.false in (
-      omega (arith, c.loop-position-test.true),
-      ap (λ n. l.at + n) e ∙ (ap (λ n. n + extent_of (row_of a.shape (kind_at l.position))) l.invariant.1 ∙ sym (start-next a.shape l.position)),
-      all_more l.position (λ q. heads_of (row_of a.shape (kind_at q)) a.image.now (start_of a.shape q)) l.invariant.2 (rw (← l.invariant.1, ← r) f),
+    let f = sym c.heads_stand.ensures ∙ c.if-not-heads_stand.false in (
+      ap (λ n. l.at + n) e ∙ (ap (λ n. n + extent_of (row_of a.shape (kind_at l.position))) l.invariant.0 ∙ sym (start-next a.shape l.position)),
+      all_more l.position (λ q. heads_of (row_of a.shape (kind_at q)) a.image.now (start_of a.shape q)) l.invariant.1 (rw (← l.invariant.0, ← r) f),
     )
 
 pub returns : goal.returns
 returns c =
     let a = c.args in
     let l = c.loop-position in
-    sym (all-stop l.position a.n (λ q. heads_of (row_of a.shape (kind_at q)) a.image.now (start_of a.shape q)) l.invariant.0 (omega (arith, c.loop-position-test.false)) l.invariant.2)
+    sym (all-stop l.position a.n (λ q. heads_of (row_of a.shape (kind_at q)) a.image.now (start_of a.shape q)) l.auto.position-end (omega (arith, c.loop-position-test.false)) l.invariant.1)
 
 pub loop-position-init : goal.loop-position-init
-loop-position-init c = (omega arith, start_none c.args.shape, all_none _)
-
-pub overflow_step-position : goal.overflow_step-position
-overflow_step-position c = omega (arith, c.loop-position-test.true)
+loop-position-init c = (start_none c.args.shape, all_none _)

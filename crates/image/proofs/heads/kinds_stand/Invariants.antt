@@ -1,5 +1,4 @@
 -- `heads::kinds_stand` meets its contract.
-use Prim.Native.Nat.{◌-◌, ◌≤◌}
 use mathlib.Core.Bool.{true}
 use mathlib.Core.Path.{◌≡◌}
 use Rattle.image_layout.specs.Join.{all_below}
@@ -7,7 +6,4 @@ use Rattle.image_layout.specs.Layout.{row_of, kind_at, start_of, heads_of}
 use Rattle.image.proofs.heads.kinds_stand.Given as goal
 
 abbrev pub invariant-loop-position : goal.invariant-loop-position
-invariant-loop-position l = (l.position ≤ l.n) × (l.at ≡ start_of l.shape l.position) × (all_below l.position (λ q. heads_of (row_of l.shape (kind_at q)) l.image (start_of l.shape q)) ≡ true)
-
-abbrev pub decreases-loop-position : goal.decreases-loop-position
-decreases-loop-position l = l.n - l.position
+invariant-loop-position l = (l.at ≡ start_of l.shape l.position) × (all_below l.position (λ q. heads_of (row_of l.shape (kind_at q)) l.image (start_of l.shape q)) ≡ true)

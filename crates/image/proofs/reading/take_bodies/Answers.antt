@@ -21,7 +21,7 @@ take_words-requires c =
     let l = c.loop-i in
     let t : l.i < (row_of a.shape a.kind).count = omega (arith, e, c.loop-i-test.true) in
     let room = body-room a.shape a.kind l.i _ t c.requires.0 in
-    (omega (arith, l.invariant.1, place l.i, room, c.requires.1), omega (arith, l.invariant.2, l.invariant.3.size, fits_in (4 * a.n) l.i (row_of a.shape a.kind).count t, c.requires.2))
+    (omega (arith, l.invariant.0, place l.i, room, c.requires.1), omega (arith, l.invariant.1, l.invariant.2.size, fits_in (4 * a.n) l.i (row_of a.shape a.kind).count t, c.requires.2))
 
 pub overflow_add-at : goal.overflow_add-at
 overflow_add-at c =
@@ -31,7 +31,7 @@ overflow_add-at c =
     let l = c.loop-i in
     let t : l.i < (row_of a.shape a.kind).count = omega (arith, e, c.loop-i-test.true) in
     let room = body-room a.shape a.kind l.i _ t c.requires.0 in
-    omega (arith, l.invariant.1, place l.i, c.record_size-size.ensures ∙ ap record_size c.row_of-row.ensures, size_few a.shape a.kind, room)
+    omega (arith, l.invariant.0, place l.i, c.record_size-size.ensures ∙ ap record_size c.row_of-row.ensures, size_few a.shape a.kind, room)
 
 pub overflow_add-next : goal.overflow_add-next
 overflow_add-next c =
@@ -39,7 +39,7 @@ overflow_add-next c =
     let e : c.row_of-row.result.count ≡ (row_of a.shape a.kind).count = ap (λ r. r.count) c.row_of-row.ensures in
     let l = c.loop-i in
     let t : l.i < (row_of a.shape a.kind).count = omega (arith, e, c.loop-i-test.true) in
-    omega (arith, l.invariant.2, l.invariant.3.size, fits_in (4 * a.n) l.i (row_of a.shape a.kind).count t, c.requires.2)
+    omega (arith, l.invariant.1, l.invariant.2.size, fits_in (4 * a.n) l.i (row_of a.shape a.kind).count t, c.requires.2)
 
 pub loop-i-preserved : goal.loop-i-preserved
 loop-i-preserved c =
@@ -47,11 +47,10 @@ loop-i-preserved c =
     let l = c.loop-i in
     let at = c.first_body-at.result in
     let size = c.record_size-size.result in
-    let x = ap (λ p. words_of (4 * a.n) (drop p a.image.now)) l.invariant.1 in (
-      omega (arith, c.loop-i-test.true),
-      omega (arith, l.invariant.1, mul-suc size l.i, ap (λ n. size * n) (add-one l.i)),
-      omega (arith, l.invariant.2, mul-suc (4 * a.n) l.i, ap (λ n. 4 * a.n * n) (add-one l.i)),
-      grown-join l.i (λ k. words_of (4 * a.n) (drop (at + size * k) a.image.now)) l.invariant.3 (grown-new x c.take_words.ensures),
+    let x = ap (λ p. words_of (4 * a.n) (drop p a.image.now)) l.invariant.0 in (
+      omega (arith, l.invariant.0, mul-suc size l.i, ap (λ n. size * n) (add-one l.i)),
+      omega (arith, l.invariant.1, mul-suc (4 * a.n) l.i, ap (λ n. 4 * a.n * n) (add-one l.i)),
+      grown-join l.i (λ k. words_of (4 * a.n) (drop (at + size * k) a.image.now)) l.invariant.2 (grown-new x c.take_words.ensures),
     )
 
 pub returns : goal.returns
@@ -62,18 +61,15 @@ returns c =
     let l = c.loop-i in
     let at = c.first_body-at.result in
     let size = c.record_size-size.result in
-    let g = grown-end l.i (row_of a.shape a.kind).count (λ k. words_of (4 * a.n) (drop (at + size * k) a.image.now)) l.invariant.3 (omega (arith, e, l.invariant.0)) (omega (arith, e, c.loop-i-test.false)) in
-    let f : l.i ≡ (row_of a.shape a.kind).count = omega (arith, e, l.invariant.0, c.loop-i-test.false) in
-    grown-same _ (l.invariant.2 ∙ ap (λ i. a.from + 4 * a.n * i) f) (grown-new (room-read a.shape a.image.now a.kind (4 * a.n) at size (omega (arith, c.requires.1)) place) g)
+    let g = grown-end l.i (row_of a.shape a.kind).count (λ k. words_of (4 * a.n) (drop (at + size * k) a.image.now)) l.invariant.2 (omega (arith, e, l.auto.i-end)) (omega (arith, e, c.loop-i-test.false)) in
+    let f : l.i ≡ (row_of a.shape a.kind).count = omega (arith, e, l.auto.i-end, c.loop-i-test.false) in
+    grown-same _ (l.invariant.1 ∙ ap (λ i. a.from + 4 * a.n * i) f) (grown-new (room-read a.shape a.image.now a.kind (4 * a.n) at size (omega (arith, c.requires.1)) place) g)
 
 pub loop-i-init : goal.loop-i-init
-loop-i-init c = (omega arith, omega arith, omega arith, grown-start _ _ _)
+loop-i-init c = (omega arith, omega arith, grown-start _ _ _)
 
 pub overflow_mul-next : goal.overflow_mul-next
 overflow_mul-next c = omega (arith, c.requires.1, size_few c.args.shape c.args.kind)
 
-pub overflow_step-i : goal.overflow_step-i
-overflow_step-i c = omega (arith, c.loop-i-test.true)
-
 pub shape_of-registers : goal.shape_of-registers
-shape_of-registers c = c.loop-i.invariant.3.size
+shape_of-registers c = c.loop-i.invariant.2.size

@@ -25,8 +25,8 @@ put_section-next-requires c =
     let w = a.shape in
     let l = c.loop-position in
     let t = c.loop-position-test.true in
-    let g = l.invariant.1 in
-    rw c.kind_at.ensures (h.0 l.position t, c.count_at.ensures, omega (arith, g.next, g.size, laid w a.n s h.0 l.position l.invariant.0, start-room w l.position a.n t, h.1))
+    let g = l.invariant in
+    rw c.kind_at.ensures (h.0 l.position t, c.count_at.ensures, omega (arith, g.next, g.size, laid w a.n s h.0 l.position l.auto.position-end, start-room w l.position a.n t, h.1))
 
 pub loop-position-preserved : goal.loop-position-preserved
 loop-position-preserved c =
@@ -35,7 +35,7 @@ loop-position-preserved c =
     let w = a.shape in
     let l = c.loop-position in
     let e = ap (λ k. section_of (row_of w k) (body_of a.shape.form s k)) c.kind_at.ensures in
-    (omega (arith, c.loop-position-test.true), grown-join l.position (section_at w (body_of a.shape.form s)) l.invariant.1 (grown-new e c.put_section-next.ensures))
+    grown-join l.position (section_at w (body_of a.shape.form s)) l.invariant (grown-new e c.put_section-next.ensures)
 
 pub returns : goal.returns
 returns c =
@@ -44,11 +44,11 @@ returns c =
     let s : State = state a.machine a.registers.now a.memory.now in
     let w = a.shape in
     let l = c.loop-position in
-    let g = grown-end l.position a.n (section_at w (body_of a.shape.form s)) l.invariant.1 l.invariant.0 (omega (arith, c.loop-position-test.false)) in
+    let g = grown-end l.position a.n (section_at w (body_of a.shape.form s)) l.invariant l.auto.position-end (omega (arith, c.loop-position-test.false)) in
     grown-whole g (laid w a.n s h.0 a.n (omega arith) ∙ h.1)
 
 pub loop-position-init : goal.loop-position-init
-loop-position-init c = (omega arith, grown-start c.args.buffer.now 0 _)
+loop-position-init c = grown-start c.args.buffer.now 0 _
 
 pub shape_of-buffer : goal.shape_of-buffer
-shape_of-buffer c = c.loop-position.invariant.1.size
+shape_of-buffer c = c.loop-position.invariant.size

@@ -10,7 +10,7 @@ use native.Mathlib.Omega.{arith}
 use Rattle.image.proofs.writing.put_section.Goals as goal
 
 pub loop-i-init : goal.loop-i-init
-loop-i-init c = (omega arith, grown-start c.args.buffer.now c.args.at _)
+loop-i-init c = grown-start c.args.buffer.now c.args.at _
 
 pub put_record-next-requires : goal.put_record-next-requires
 put_record-next-requires c =
@@ -20,7 +20,7 @@ put_record-next-requires c =
     let r = row_of a.shape a.kind in
     let l = c.loop-i in
     let t : l.i < r.count = omega (arith, c.loop-i-test.true, h.1) in
-    (h.0, t, room_for (record_size r) l.i r.count (record_of r (body_of a.shape.form s a.kind)) l.invariant.1 (record-length r (body_of a.shape.form s a.kind) (body-length-of a.shape s a.kind h.0)) t h.2)
+    (h.0, t, room_for (record_size r) l.i r.count (record_of r (body_of a.shape.form s a.kind)) l.invariant (record-length r (body_of a.shape.form s a.kind) (body-length-of a.shape s a.kind h.0)) t h.2)
 
 pub loop-i-preserved : goal.loop-i-preserved
 loop-i-preserved c =
@@ -28,7 +28,7 @@ loop-i-preserved c =
     let s : State = state a.machine a.registers.now a.memory.now in
     let r = row_of a.shape a.kind in
     let l = c.loop-i in
-    (omega (arith, c.loop-i-test.true), grown-join l.i (record_of r (body_of a.shape.form s a.kind)) l.invariant.1 c.put_record-next.ensures)
+    grown-join l.i (record_of r (body_of a.shape.form s a.kind)) l.invariant c.put_record-next.ensures
 
 pub returns : goal.returns
 unfolding section_of
@@ -38,7 +38,7 @@ returns c =
     let s : State = state a.machine a.registers.now a.memory.now in
     let r = row_of a.shape a.kind in
     let l = c.loop-i in
-    grown-end l.i r.count (record_of r (body_of a.shape.form s a.kind)) l.invariant.1 (omega (arith, h, l.invariant.0)) (omega (arith, h, c.loop-i-test.false))
+    grown-end l.i r.count (record_of r (body_of a.shape.form s a.kind)) l.invariant (omega (arith, h, l.auto.i-end)) (omega (arith, h, c.loop-i-test.false))
 
 pub shape_of-buffer : goal.shape_of-buffer
-shape_of-buffer c = c.loop-i.invariant.1.size
+shape_of-buffer c = c.loop-i.invariant.size
