@@ -12,12 +12,11 @@ pub const LONGEST_IMAGE: usize = FIXED_PART as usize + BLOCK_RECORD * (MEMORY_BY
 pub const IMAGE_ROOM: usize = LONGEST_IMAGE + 1;
 
 // The length of an image of a shape.
+#[tactic(auto, using(image_layout::proofs::Rows::whole_length))]
 pub fn image_size(shape: Shape) -> usize
     ensures { result ≡ start_of shape kinds }
 {
-    let form = shape.form;
-    let fixed = fixed_part(form) as usize;
-    fixed + BLOCK_RECORD * shape.blocks as usize
+    fixed_part(shape.form) as usize + BLOCK_RECORD * shape.blocks as usize
 }
 
 // The length of the memory that an image of so many bytes holds, in the form that the length says; 0 where it has room for none. Whether
@@ -25,10 +24,6 @@ pub fn image_size(shape: Shape) -> usize
 pub fn memory_of(size: usize) -> usize
     ensures { result ≡ memory_of size }
 {
-    let form = form_of(size);
-    let fixed = fixed_part(form) as usize;
-    if size < fixed {
-        return 0;
-    }
-    BLOCK_BYTES * ((size - fixed) / BLOCK_RECORD)
+    let fixed = fixed_part(form_of(size)) as usize;
+    BLOCK_BYTES * (size.saturating_sub(fixed) / BLOCK_RECORD)
 }
