@@ -1,5 +1,5 @@
 -- What a word of scalars alone does: one law a family.
-use Rattle.std.proofs.Common.{◌≡◌, ℕ, ◌%◌, ◌^◌, ◌<◌, Bool, true, false, cond, ◌&&◌, ltb, leb, List, [], sym, refl, ap, ◌∙◌, arith, lt-ltb, eq-eqb}
+use Rattle.std.proofs.Common.{◌≡◌, ℕ, ◌%◌, ◌^◌, ◌<◌, Bool, true, false, cond, ◌&&◌, ltb, leb, List, [], sym, refl, ap, ◌∙◌, arith, lt-ltb, eq-eqb, Ok}
 use mathlib.Core.Bool.{false≢true}
 use Rattle.alu.specs.Binary.{binary}
 use Rattle.ordering.specs.Compare.{compare}
@@ -11,7 +11,7 @@ use Rattle.isa.specs.Rule.{flags_unary, flags_class, destination, allows_r, allo
 use Rattle.isa.specs.Test.{is_in}
 use Rattle.isa.specs.Table.{row_r, row_movei, row_j, row_m}
 use Rattle.execution.specs.Access.{access, load_into, store_from}
-use Rattle.execution.specs.Effect.{context, executed, beside, advanced, next}
+use Rattle.execution.specs.Effect.{Stays, context, executed, beside, advanced, next}
 use Rattle.execution.specs.Immediate.{replaced, move_immediate}
 use Rattle.execution.specs.Issue.{execute_word}
 use Rattle.execution.specs.Jump.{jump, jump_by}
@@ -20,7 +20,6 @@ use Rattle.execution.specs.Registers.{scalar}
 use Rattle.memory.specs.Attempt.{Attempt, done, fault}
 use Rattle.memory.specs.Operation.{load, store, StoreResult, store_result, changed, scalar_place, bytes_stored}
 use Rattle.little_endian.specs.Numbers.{with_number}
-use Rattle.memory.specs.declared.outcome.Access.TheVariants.{Done}
 use Rattle.fast_path.proofs.Words.{free-register, flagged-R, flagged-I, plain-Movei, plain-J, plain-M}
 use Rattle.fast_path.specs.Action.{HasOpcode, Acts, ActsOn, ActsAnywhere}
 use Rattle.fast_path.specs.Types.{
@@ -49,7 +48,6 @@ use Rattle.fast_path.specs.Types.{
   LoadOp,
   Store,
   StoreOp,
-  Stays,
 }
 
 -- every operation of one operand has a form on scalars
@@ -175,7 +173,7 @@ module _ (t : ℕ) (regs : List ℕ) (w : ℕ) where
 
   -- a store that is done, and one that traps, which changes no byte
   pub stores : (op : StoreOp) → HasOpcode w 0x80 64 (row_m (Store op)).opcode → w % 8 ≡ 0 → (memory stored : List ℕ) →
-      store_result Done stored ≡ store op memory operand_a immediate (scalar regs t (bits w 23 18)) → (pc enabled words turns : ℕ) →
+      store_result (Ok tt) stored ≡ store op memory operand_a immediate (scalar regs t (bits w 23 18)) → (pc enabled words turns : ℕ) →
       executed Stays (advanced (context t pc enabled words turns) regs) stored ≡ execute_word (context t pc enabled words turns) regs memory w
   unfolding store_from
   stores op h low memory stored e pc enabled words turns = sym (accesses (Store op) h low refl memory pc enabled words turns ∙ rw (← e))

@@ -1,13 +1,13 @@
 -- What trying a word comes to.
 use Rattle.std.proofs.Common.{◌≡◌, ℕ, ◌/◌, Bool, true, false, List, length, get_or, sym, refl, ap, ◌∙◌, subst, arith}
 use mathlib.Core.Option.{Option, none, some}
-use Rattle.execution.specs.Effect.{Step, step, beside}
+use Rattle.execution.specs.Effect.{Stays, Step, step, beside}
 use Rattle.execution.specs.Issue.{fits, perform, perform_sets_status, issue, issue_sets_status}
 use Rattle.execution.specs.Jump.{in_program}
 use Rattle.execution.specs.Registers.{program_counter}
 use Rattle.word_layout.specs.Layout.{bits}
 use Rattle.fast_path.specs.Action.{step_of, Executes, Acts, Goes, Tried, TriedWord, TriedIssue}
-use Rattle.fast_path.specs.Types.{Action, Context, Stays}
+use Rattle.fast_path.specs.Types.{Action, Context}
 
 -- a word that is executed as a step says is tried by trying that step
 pub tries-step : (c : Context) (w : ℕ) (regs memory : List ℕ) (s : Option Step) → Executes c w regs memory s →

@@ -1,9 +1,9 @@
 -- Words on vectors: what every lane on comes to, and what such a word does, one law a family.
-use Rattle.std.proofs.Common.{◌≡◌, ℕ, zero, suc, ◌+◌, ◌-◌, ◌*◌, ◌/◌, ◌%◌, ◌^◌, ◌<◌, Bool, true, false, cond, ltb, List, set, sym, refl, ap, ◌∙◌, mod-lt, pow-suc, one-add, arith, pow_pos, ltb-false, ltb-true, eq-eqb, eqb-true}
+use Rattle.std.proofs.Common.{◌≡◌, ℕ, zero, suc, ◌+◌, ◌-◌, ◌*◌, ◌/◌, ◌%◌, ◌^◌, ◌<◌, Bool, true, false, cond, ltb, List, set, sym, refl, ap, ◌∙◌, mod-lt, pow-suc, one-add, arith, pow_pos, ltb-false, ltb-true, eq-eqb, eqb-true, Ok}
 use lib.Pow.{mod-pow-add}
 use Rattle.bits.specs.Bit.{is_set}
 use Rattle.execution.specs.Access.{load_lanes_into, store_lanes_from}
-use Rattle.execution.specs.Effect.{context, executed, advanced}
+use Rattle.execution.specs.Effect.{Stays, context, executed, advanced}
 use Rattle.execution.specs.Issue.{execute_word}
 use Rattle.execution.specs.Operation.{binary_into, compare_into, operate_r, operate_i}
 use Rattle.execution.specs.Registers.{scalar, vector, lane_mask, with_vector, with_lanes_on, with_program_counter}
@@ -13,7 +13,6 @@ use Rattle.little_endian.specs.Numbers.{with_number}
 use Rattle.machine.specs.State.{lane_index, program_counter_register}
 use Rattle.memory.specs.Attempt.{Attempt, done, fault}
 use Rattle.memory.specs.Operation.{load_lanes, store_lanes, with_lanes, vector_place, changed, store_result}
-use Rattle.memory.specs.declared.outcome.Access.TheVariants.{Done}
 use Rattle.vector.proofs.Filling.{tab-lane}
 use Rattle.vector.specs.Lanes.{each, lane, is_on, blended, splatted}
 use Rattle.word_layout.specs.Layout.{bits}
@@ -21,7 +20,7 @@ use Rattle.fast_path.proofs.Families.{has-I, immediate, accesses, trap-changes}
 use Rattle.fast_path.proofs.Words.{free-register, flagged-R, flagged-I}
 use Rattle.fast_path.specs.Action.{HasOpcode, Tried}
 use Rattle.fast_path.specs.Lanes.{all_on, LeavesIn, Combines, ComparesLanes}
-use Rattle.fast_path.specs.Types.{Binary, Compare, LoadVector, StoreVector, Stays}
+use Rattle.fast_path.specs.Types.{Binary, Compare, LoadVector, StoreVector}
 
 -- ---- every lane is on
 
@@ -117,7 +116,7 @@ module _ (t : ℕ) (regs : List ℕ) (w : ℕ) (low : w % 8 ≡ 0) where
       accesses t regs w LoadVector h low refl memory pc enabled words turns ∙ rw (← e)
 
   pub stores-lanes : HasOpcode w 0x80 64 (row_m StoreVector).opcode → all_on regs t ≡ true → (memory stored : List ℕ) →
-      store_result Done stored ≡ store_lanes memory (scalar regs t (bits w 17 12)) (immediate t regs w) (2 ^ 16 - 1) (vector regs t (bits w 23 18)) →
+      store_result (Ok tt) stored ≡ store_lanes memory (scalar regs t (bits w 17 12)) (immediate t regs w) (2 ^ 16 - 1) (vector regs t (bits w 23 18)) →
       (pc enabled words turns : ℕ) →
       executed Stays (advanced (context t pc enabled words turns) regs) stored ≡ execute_word (context t pc enabled words turns) regs memory w
   unfolding store_lanes_from

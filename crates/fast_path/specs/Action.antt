@@ -1,13 +1,13 @@
 -- The fast path: it does with a word what the rules say, or leaves it to the slow path with nothing changed.
 use Rattle.std.specs.Prelude.{◌≡◌, ℕ, ◌+◌, ◌/◌, ◌^◌, ◌<◌, Bool, true, false, List}
 use Rattle.std.proofs.Math.Option.{Option, none, some}
-use Rattle.execution.specs.Effect.{context, Step, step, executed, beside, next}
+use Rattle.execution.specs.Effect.{Stays, context, Step, step, executed, beside, next}
 use Rattle.execution.specs.Issue.{execute_word, issue, issue_sets_status}
 use Rattle.execution.specs.Jump.{jump_by}
 use Rattle.execution.specs.Registers.{with_scalar}
 use Rattle.word_layout.specs.Layout.{field, first_register}
 use Rattle.machine.specs.State.{state, program_counter_register}
-use Rattle.fast_path.specs.Types.{Action, Write, Next, Jump, LanesR, LanesI, Defer, Context, Machine, Stays}
+use Rattle.fast_path.specs.Types.{Action, Write, Next, Jump, Lanes, Defer, Context, Machine}
 
 -- a word's top byte says its format and an opcode of it, and its first register is one that a scalar may be written to
 pub record HasOpcode (w format count opcode : ℕ) : Type 0 where
@@ -20,26 +20,8 @@ abbrev pub step_of : Context → ℕ → List ℕ → Action → Option Step
 step_of c d regs (Write x) = some (next c (with_scalar regs c.thread d x))
 step_of c d regs Next = some (next c regs)
 step_of c d regs (Jump offset) = some (jump_by c regs regs offset)
-step_of c d regs LanesR = none
-step_of c d regs LanesI = none
+step_of c d regs Lanes = none
 step_of c d regs Defer = none
-
--- whether a word is to be tried as one on vectors
-abbrev pub is_lanes_r : Action → Bool
-is_lanes_r (Write x) = false
-is_lanes_r Next = false
-is_lanes_r (Jump offset) = false
-is_lanes_r LanesR = true
-is_lanes_r LanesI = false
-is_lanes_r Defer = false
-
-abbrev pub is_lanes_i : Action → Bool
-is_lanes_i (Write x) = false
-is_lanes_i Next = false
-is_lanes_i (Jump offset) = false
-is_lanes_i LanesR = false
-is_lanes_i LanesI = true
-is_lanes_i Defer = false
 
 -- the rules execute a word as this step, if there is one
 abbrev pub Executes : Context → ℕ → List ℕ → List ℕ → Option Step → Type 0

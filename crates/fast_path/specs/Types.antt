@@ -1,6 +1,6 @@
 -- The types that the code declares, and those of the crates below, by their names in the definitions.
 pub use Rattle.fast_path.specs.declared.action.Action.{Action}
-pub use Rattle.fast_path.specs.declared.action.Action.TheVariants.{Write, Next, Jump, LanesR, LanesI, Defer}
+pub use Rattle.fast_path.specs.declared.action.Action.TheVariants.{Write, Next, Jump, Lanes, Defer}
 pub use Rattle.isa.specs.declared.instruction.BinaryOp.{BinaryOp}
 pub use Rattle.isa.specs.declared.instruction.UnaryOp.{UnaryOp}
 pub use Rattle.isa.specs.declared.instruction.UnaryOp.TheVariants.{Clz, Ctz, Move, Sext8, Sext16, IntToFloat, FloatToInt}
@@ -20,5 +20,3 @@ pub use Rattle.isa.specs.declared.instruction.Instruction.TheVariants.{R, I, Mov
 pub use Rattle.machine.specs.declared.record.Machine.{Machine}
 pub use Rattle.execution.specs.declared.context.Context.{Context}
 pub use Rattle.execution.specs.declared.operand.Source.TheVariants.{Scalar, Vector}
-pub use Rattle.execution.specs.declared.effect.Effect.{Effect}
-pub use Rattle.execution.specs.declared.effect.Effect.TheVariants.{Stays}

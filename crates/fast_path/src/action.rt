@@ -1,6 +1,6 @@
 // What the fast path does with a word.
 
-#[derive(Clone, Copy)]
+#[derive(Clone, Copy, Debug, PartialEq, Eq)]
 pub enum Action {
     // The register in bits 23-18 gets a number, and the thread goes on with the next word.
     Write(u32),
@@ -9,8 +9,7 @@ pub enum Action {
     // The thread jumps, over so many bytes from the word's own address.
     Jump(u32),
     // Nothing: the word may be an R or an I word on vectors, and is tried as such.
-    LanesR,
-    LanesI,
+    Lanes,
     // Nothing: the word is left to the slow path.
     Defer,
 }

@@ -1,8 +1,6 @@
 // Families of words on scalars: what a word does, or that it is tried as one on vectors or left to the slow path.
 ghost use Rattle.std.specs.Prelude.{◌≡◌, if◌then◌else◌};
-ghost use Rattle.execution.specs.Immediate.{replaced};
 ghost use Rattle.execution.specs.Registers.{InRegisters};
-ghost use Rattle.isa.specs.Claims.{HalfWord};
 ghost use Rattle.isa.specs.Table.{row_r, row_movei, row_j, row_m};
 ghost use Rattle.fast_path.specs.Action.{HasOpcode, ActsOn, ActsAnywhere};
 ghost use Rattle.fast_path.specs.Types.{Next, Jump, Binary, Unary, Compare, Load};
@@ -10,14 +8,13 @@ ghost use Rattle.fast_path.specs.Types.{Next, Jump, Binary, Unary, Compare, Load
 use crate::action::Action;
 use crate::{field, registers};
 use isa::{BinaryOp, CompareOp, JumpOp, LoadOp, MoveiOp, UnaryOp};
-use memory::Loaded;
 
 pub fn binary_r(regs: &[u32], t: usize, w: u32, op: BinaryOp) -> Action
     requires { InRegisters regs.now t × HasOpcode w 0x00 64 (row_r (Binary op)).opcode }
     ensures { ActsAnywhere t w regs.now result }
 {
     if field::flags_r(w) != 0 {
-        return Action::LanesR;
+        return Action::Lanes;
     }
     let x = registers::operand_a(regs, t, w);
     let y = registers::operand_b(regs, t, w);
@@ -29,7 +26,7 @@ pub fn binary_i(regs: &[u32], t: usize, w: u32, op: BinaryOp) -> Action
     ensures { ActsAnywhere t w regs.now result }
 {
     if field::flags_i(w) != 0 {
-        return Action::LanesI;
+        return Action::Lanes;
     }
     let x = registers::operand_a(regs, t, w);
     let y = word_layout::short_signed(w);
@@ -48,22 +45,16 @@ pub fn unary_r(regs: &[u32], t: usize, w: u32, op: UnaryOp) -> Action
     Action::Write(alu::unary(op, x))
 }
 
-fn number(holds: bool) -> u32
-    ensures { result ≡ (if holds then 1 else 0) }
-{
-    if holds { 1 } else { 0 }
-}
-
 pub fn compare_r(regs: &[u32], t: usize, w: u32, op: CompareOp) -> Action
     requires { InRegisters regs.now t × HasOpcode w 0x00 64 (row_r (Compare op)).opcode }
     ensures { ActsAnywhere t w regs.now result }
 {
     if field::flags_r(w) != 0 {
-        return Action::LanesR;
+        return Action::Lanes;
     }
     let x = registers::operand_a(regs, t, w);
     let y = registers::operand_b(regs, t, w);
-    Action::Write(number(ordering::compare(op, x, y)))
+    Action::Write(u32::from(ordering::compare(op, x, y)))
 }
 
 pub fn compare_i(regs: &[u32], t: usize, w: u32, op: CompareOp) -> Action
@@ -71,22 +62,11 @@ pub fn compare_i(regs: &[u32], t: usize, w: u32, op: CompareOp) -> Action
     ensures { ActsAnywhere t w regs.now result }
 {
     if field::flags_i(w) != 0 {
-        return Action::LanesI;
+        return Action::Lanes;
     }
     let x = registers::operand_a(regs, t, w);
     let y = word_layout::short_signed(w);
-    Action::Write(number(ordering::compare(op, x, y)))
-}
-
-fn replace(op: MoveiOp, old: u32, n: u32) -> u32
-    requires { HalfWord op n }
-    ensures { result ≡ replaced op old n }
-{
-    match op {
-        MoveiOp::Low => old / 65536 * 65536 + n,
-        MoveiOp::High => n * 65536 + old % 65536,
-        MoveiOp::Whole => n,
-    }
+    Action::Write(u32::from(ordering::compare(op, x, y)))
 }
 
 pub fn move_immediate(regs: &[u32], t: usize, w: u32, op: MoveiOp) -> Action
@@ -97,7 +77,7 @@ pub fn move_immediate(regs: &[u32], t: usize, w: u32, op: MoveiOp) -> Action
         return Action::Defer;
     }
     let old = registers::operand_d(regs, t, w);
-    Action::Write(replace(op, old, isa::movei_number(op, w)))
+    Action::Write(execution::replace(op, old, isa::movei_number(op, w)))
 }
 
 // A branch, taken or not.
@@ -116,7 +96,7 @@ pub fn jump(regs: &[u32], t: usize, w: u32, op: JumpOp) -> Action
     requires { InRegisters regs.now t × HasOpcode w 0x70 8 (row_j op).opcode }
     ensures { ActsAnywhere t w regs.now result }
 {
-    let register = registers::register(w);
+    let register = field::first(w);
     let x = registers::operand_d(regs, t, w);
     let offset = word_layout::long_signed(w);
     match op {
@@ -125,8 +105,7 @@ pub fn jump(regs: &[u32], t: usize, w: u32, op: JumpOp) -> Action
         } else {
             Action::Defer
         },
-        JumpOp::Jmpsr => Action::Defer,
-        JumpOp::Jret => Action::Defer,
+        JumpOp::Jmpsr | JumpOp::Jret => Action::Defer,
         JumpOp::Beqz => branch(x == 0, offset),
         JumpOp::Bnez => branch(x != 0, offset),
     }
@@ -143,8 +122,7 @@ pub fn load(regs: &[u32], memory: &[u8], t: usize, w: u32, op: LoadOp) -> Action
     let base = registers::operand_a(regs, t, w);
     let offset = word_layout::short_signed(w);
     match memory::load(op, memory, base, offset) {
-        Loaded::Value(x) => Action::Write(x),
-        Loaded::Misaligned => Action::Defer,
-        Loaded::Outside => Action::Defer,
+        Ok(x) => Action::Write(x),
+        Err(_) => Action::Defer,
     }
 }

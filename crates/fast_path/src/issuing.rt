@@ -1,45 +1,27 @@
 // The word of a thread's issue, tried by the fast path.
 ghost use Rattle.std.specs.Prelude.{◌≡◌, ◌<◌, ◌≤◌};
 ghost use Rattle.answer.specs.Refusal.{program_words};
-ghost use Rattle.execution.specs.Issue.{fits};
-ghost use Rattle.execution.specs.Jump.{in_program};
 ghost use Rattle.execution.specs.Registers.{InRegisters};
 ghost use Rattle.isa.specs.Table.{row_m};
-ghost use Rattle.fast_path.specs.Action.{HasOpcode, is_lanes_r, is_lanes_i, GoesBy, TriedStore, TriedWord, TriedIssue};
+ghost use Rattle.fast_path.specs.Action.{HasOpcode, GoesBy, TriedStore, TriedWord, TriedIssue};
 ghost use Rattle.fast_path.specs.Types.{Jump, Store};
 
 use crate::action::Action;
 use crate::{field, lanes, registers, table};
 use isa::StoreOp;
 use machine::PROGRAM_COUNTER;
-use memory::Access;
-
-// Whether the lengths and the thread are such as a run comes to.
-fn fits(words: usize, regs: usize, thread: usize) -> bool
-    ensures { result ≡ fits words regs thread }
-{
-    (words <= 16384) & (regs == 8704) & (thread < 8)
-}
-
-// Whether a word of the program stands at an address.
-fn in_program(words: usize, address: u32) -> bool
-    requires { words ≤ program_words }
-    ensures { result ≡ in_program words address }
-{
-    (address % 4 == 0) & ((address as usize) < 4 * words)
-}
 
 // The sum wraps: a negative target comes out past the end of every program.
 fn jump(words: usize, regs: &mut [u32], t: usize, pc: u32, offset: u32) -> bool
     requires { InRegisters regs.old t × (words ≤ program_words) × (pc < 65536) }
     ensures { GoesBy t pc words 0 regs.old (Jump offset) result regs.new }
 {
-    let target = std::num::wrapping_add_u32(pc, offset);
-    if in_program(words, target) {
-        registers::set_scalar(regs, t, PROGRAM_COUNTER, target);
-        return true;
+    let target = pc.wrapping_add(offset);
+    if !execution::in_program(words, target) {
+        return false;
     }
-    false
+    execution::set_scalar(regs, t, PROGRAM_COUNTER, target);
+    true
 }
 
 // The action of a word at address pc whose destination is d.
@@ -49,45 +31,12 @@ fn act(words: usize, regs: &mut [u32], t: usize, pc: u32, d: usize, action: Acti
 {
     match action {
         Action::Write(x) => {
-            registers::set_scalar(regs, t, d as u32, x);
-            registers::advance(regs, t, pc);
-            true
+            execution::set_scalar(regs, t, d as u32, x);
+            registers::go_on(regs, t, pc)
         }
-        Action::Next => {
-            registers::advance(regs, t, pc);
-            true
-        }
+        Action::Next => registers::go_on(regs, t, pc),
         Action::Jump(offset) => jump(words, regs, t, pc, offset),
-        Action::LanesR => false,
-        Action::LanesI => false,
-        Action::Defer => false,
-    }
-}
-
-// Whether the word is to be tried as an R word on vectors, and as an I word on them.
-fn is_lanes_r(action: Action) -> bool
-    ensures { result ≡ is_lanes_r action }
-{
-    match action {
-        Action::Write(_) => false,
-        Action::Next => false,
-        Action::Jump(_) => false,
-        Action::LanesR => true,
-        Action::LanesI => false,
-        Action::Defer => false,
-    }
-}
-
-fn is_lanes_i(action: Action) -> bool
-    ensures { result ≡ is_lanes_i action }
-{
-    match action {
-        Action::Write(_) => false,
-        Action::Next => false,
-        Action::Jump(_) => false,
-        Action::LanesR => false,
-        Action::LanesI => true,
-        Action::Defer => false,
+        Action::Lanes | Action::Defer => false,
     }
 }
 
@@ -103,12 +52,8 @@ fn store(regs: &mut [u32], memory: &mut [u8], t: usize, pc: u32, w: u32, op: Sto
     let x = registers::operand_d(regs, t, w);
     let offset = word_layout::short_signed(w);
     match memory::store(op, memory, base, offset, x) {
-        Access::Done => {
-            registers::advance(regs, t, pc);
-            true
-        }
-        Access::Misaligned => false,
-        Access::Outside => false,
+        Ok(()) => registers::go_on(regs, t, pc),
+        Err(_) => false,
     }
 }
 
@@ -118,7 +63,7 @@ fn word(words: usize, regs: &mut [u32], memory: &mut [u8], t: usize, pc: u32, w:
     requires { InRegisters regs.old t × (words ≤ program_words) × (pc < 65536) }
     ensures { TriedWord t pc words w regs.old memory.old result regs.new memory.new }
 {
-    let d = registers::register(w);
+    let d = field::first(w) as usize;
     if d == PROGRAM_COUNTER as usize {
         return false;
     }
@@ -127,18 +72,11 @@ fn word(words: usize, regs: &mut [u32], memory: &mut [u8], t: usize, pc: u32, w:
         0xA0 => store(regs, memory, t, pc, w, StoreOp::Store8),
         0xA1 => store(regs, memory, t, pc, w, StoreOp::Store16),
         0xA2 => store(regs, memory, t, pc, w, StoreOp::Store32),
-        0x88 => lanes::access(regs, memory, t, pc, w),
-        0xA8 => lanes::access(regs, memory, t, pc, w),
-        _ => {
-            let action = table::action(regs, memory, t, w, top);
-            if is_lanes_r(action) {
-                return lanes::word(regs, t, pc, w);
-            }
-            if is_lanes_i(action) {
-                return lanes::word(regs, t, pc, w);
-            }
-            act(words, regs, t, pc, d, action)
-        }
+        0x88 | 0xA8 => lanes::access(regs, memory, t, pc, w),
+        _ => match table::action(regs, memory, t, w, top) {
+            Action::Lanes => lanes::word(regs, t, pc, w),
+            action => act(words, regs, t, pc, d, action),
+        },
     }
 }
 
@@ -148,11 +86,11 @@ pub fn try_word(program: &[u32], regs: &mut [u32], memory: &mut [u8], thread: us
     ensures { TriedIssue program.now thread regs.old memory.old result regs.new memory.new }
 {
     let words = program.len();
-    if !fits(words, regs.len(), thread) {
+    if !execution::fits(words, regs.len(), thread) {
         return false;
     }
-    let pc = registers::scalar(regs, thread, PROGRAM_COUNTER);
-    if !in_program(words, pc) {
+    let pc = execution::scalar(regs, thread, PROGRAM_COUNTER);
+    if !execution::in_program(words, pc) {
         return false;
     }
     let w = program[(pc / 4) as usize];

@@ -1,5 +1,5 @@
 // Words on vectors. Those that write lanes are tried where every lane is on, and left to the slow path where one is off.
-ghost use Rattle.std.specs.Prelude.{◌≡◌, ◌+◌, ◌/◌, ◌%◌, ◌^◌, ◌<◌, ◌≤◌, true, false};
+ghost use Rattle.std.specs.Prelude.{◌≡◌, ◌+◌, ◌/◌, ◌%◌, ◌^◌, ◌<◌, ◌≤◌, true, false, MatchOption, ◌⊎◌};
 ghost use Rattle.alu.specs.Binary.{is_float};
 ghost use Rattle.compares.specs.Outcome.{flags_of, answers_of};
 ghost use Rattle.execution.specs.Registers.{vector, with_lanes_on, with_program_counter, InRegisters};
@@ -14,23 +14,22 @@ ghost use Rattle.fast_path.specs.Types.{Compare, Eq, Lt, Ult, LoadVector, StoreV
 use crate::{field, registers};
 use isa::{BinaryOp, CompareOp};
 use machine::LANE_MASK;
-use memory::Access;
 
 // Whether every lane of a thread is on.
 fn all_on(regs: &[u32], t: usize) -> bool
     requires { InRegisters regs.now t }
     ensures { result ≡ all_on regs.now t }
 {
-    registers::scalar(regs, t, LANE_MASK) % 65536 == 65535
+    execution::scalar(regs, t, LANE_MASK) % 65536 == 65535
 }
 
 // The vector in bits 23-18 gets lanes, every one of which is on.
-fn put(regs: &mut [u32], t: usize, pc: u32, w: u32, v: [u32; 16])
+fn put(regs: &mut [u32], t: usize, pc: u32, w: u32, v: [u32; 16]) -> bool
     requires { InRegisters regs.old t × (pc < 65536) × (all_on regs.old t ≡ true) }
-    ensures { regs.new ≡ with_program_counter (with_lanes_on regs.old t (field w first_register) v) t (pc + 4) }
+    ensures { (result ≡ true) × (regs.new ≡ with_program_counter (with_lanes_on regs.old t (field w first_register) v) t (pc + 4)) }
 {
-    registers::set_vector(regs, t, w / 0x40000 % 64, v);
-    registers::advance(regs, t, pc);
+    execution::set_vector(regs, t, field::first(w), v);
+    registers::go_on(regs, t, pc)
 }
 
 // What an operation on whole numbers makes of lanes x and y.
@@ -47,8 +46,7 @@ fn combine(
         × PutsLanes t w regs.old (binary_lanes op x y) }
     ensures { TriedLanes t pc w regs.old result regs.new }
 {
-    put(regs, t, pc, w, vector::each_integer(op, x, y));
-    true
+    put(regs, t, pc, w, vector::each_integer(op, x, y))
 }
 
 // Two vectors. Operations for which the processor has no instruction are left to the slow path.
@@ -88,7 +86,7 @@ fn combine_number(
     requires { InRegisters regs.old t × (pc < 65536) × (all_on regs.old t ≡ true) × Combines t w regs.old opcode x (splatted n) }
     ensures { TriedLanes t pc w regs.old result regs.new }
 {
-    let y = registers::splat(n);
+    let y = execution::splat(n);
     match opcode {
         1 => combine(regs, t, pc, w, BinaryOp::Or, x, y),
         2 => combine(regs, t, pc, w, BinaryOp::And, x, y),
@@ -126,26 +124,22 @@ fn binary_number(regs: &mut [u32], t: usize, pc: u32, w: u32, opcode: u8, n: u32
     combine_number(regs, t, pc, w, opcode, x, n)
 }
 
-// The compare of whole numbers that an opcode is.
-fn compare_at(opcode: u8) -> CompareOp
-    requires { (14 ≤ opcode) × (opcode < 24) }
-    ensures { (row_r (Compare result)).opcode ≡ opcode }
+// The compare of whole numbers that an opcode is, if it is one.
+fn compare_at(opcode: u8) -> Option<CompareOp>
+    ensures { MatchOption result ((opcode < 14) ⊎ (23 < opcode)) (λ op. ((row_r (Compare op)).opcode ≡ opcode) × (opcode < 24)) }
 {
-    if opcode < 19 {
-        return match opcode {
-            14 => CompareOp::Eq,
-            15 => CompareOp::Ne,
-            16 => CompareOp::Gt,
-            17 => CompareOp::Ge,
-            _ => CompareOp::Lt,
-        };
-    }
     match opcode {
-        19 => CompareOp::Le,
-        20 => CompareOp::Ugt,
-        21 => CompareOp::Uge,
-        22 => CompareOp::Ult,
-        _ => CompareOp::Ule,
+        14 => Some(CompareOp::Eq),
+        15 => Some(CompareOp::Ne),
+        16 => Some(CompareOp::Gt),
+        17 => Some(CompareOp::Ge),
+        18 => Some(CompareOp::Lt),
+        19 => Some(CompareOp::Le),
+        20 => Some(CompareOp::Ugt),
+        21 => Some(CompareOp::Uge),
+        22 => Some(CompareOp::Ult),
+        23 => Some(CompareOp::Ule),
+        _ => None,
     }
 }
 
@@ -156,45 +150,41 @@ fn flags(yes: bool) -> u32
     if yes { 65535 } else { 0 }
 }
 
-// The answers of all lanes of vectors i and k. Each compare has its own loop and loads for itself: only then the compiler makes vector
-// instructions of it.
+// The answers of all lanes of vectors i and k, whose lanes it loads for itself. It is inlined where the compare is known: only then the
+// compiler makes vector instructions of the loop.
+#[inline(always)]
+fn holding(regs: &[u32], t: usize, op: CompareOp, i: u32, k: u32) -> u32
+    requires { InRegisters regs.now t × (i < 64) × (k < 64) }
+    ensures { result ≡ answers_of op (vector regs.now t i) (vector regs.now t k) }
+{
+    let x = execution::vector(regs, t, i);
+    let y = execution::vector(regs, t, k);
+    let mut r: u32 = 0;
+    for (j, a) in x.iter().enumerate() {
+        r |= flags(ordering::compare(op, *a, y[j])) & (1 << j);
+    }
+    r
+}
+
 fn equal(regs: &[u32], t: usize, i: u32, k: u32) -> u32
     requires { InRegisters regs.now t × (i < 64) × (k < 64) }
     ensures { result ≡ answers_of Eq (vector regs.now t i) (vector regs.now t k) }
 {
-    let x = registers::vector(regs, t, i);
-    let y = registers::vector(regs, t, k);
-    let mut r: u32 = 0;
-    for j in 0..16usize {
-        r = r | (flags(ordering::compare(CompareOp::Eq, x[j], y[j])) & (1 << j));
-    }
-    r
+    holding(regs, t, CompareOp::Eq, i, k)
 }
 
 fn signed_below(regs: &[u32], t: usize, i: u32, k: u32) -> u32
     requires { InRegisters regs.now t × (i < 64) × (k < 64) }
     ensures { result ≡ answers_of Lt (vector regs.now t i) (vector regs.now t k) }
 {
-    let x = registers::vector(regs, t, i);
-    let y = registers::vector(regs, t, k);
-    let mut r: u32 = 0;
-    for j in 0..16usize {
-        r = r | (flags(ordering::compare(CompareOp::Lt, x[j], y[j])) & (1 << j));
-    }
-    r
+    holding(regs, t, CompareOp::Lt, i, k)
 }
 
 fn unsigned_below(regs: &[u32], t: usize, i: u32, k: u32) -> u32
     requires { InRegisters regs.now t × (i < 64) × (k < 64) }
     ensures { result ≡ answers_of Ult (vector regs.now t i) (vector regs.now t k) }
 {
-    let x = registers::vector(regs, t, i);
-    let y = registers::vector(regs, t, k);
-    let mut r: u32 = 0;
-    for j in 0..16usize {
-        r = r | (flags(ordering::compare(CompareOp::Ult, x[j], y[j])) & (1 << j));
-    }
-    r
+    holding(regs, t, CompareOp::Ult, i, k)
 }
 
 // The same of any compare of whole numbers; those of floats don't come here.
@@ -213,12 +203,12 @@ fn answers(regs: &[u32], t: usize, op: CompareOp, i: u32, k: u32) -> u32
         CompareOp::Uge => 65535 - unsigned_below(regs, t, i, k),
         CompareOp::Ult => unsigned_below(regs, t, i, k),
         CompareOp::Ule => 65535 - unsigned_below(regs, t, k, i),
-        CompareOp::Feq => 0,
-        CompareOp::Fne => 0,
-        CompareOp::Fgt => 0,
-        CompareOp::Fge => 0,
-        CompareOp::Flt => 0,
-        CompareOp::Fle => 0,
+        CompareOp::Feq
+        | CompareOp::Fne
+        | CompareOp::Fgt
+        | CompareOp::Fge
+        | CompareOp::Flt
+        | CompareOp::Fle => 0,
     }
 }
 
@@ -228,18 +218,13 @@ fn compare_vectors(regs: &mut [u32], t: usize, pc: u32, w: u32, opcode: u8) -> b
         × ComparesLanes t w regs.old opcode (vector regs.old t (field w second_register)) (vector regs.old t (field w third_register)) }
     ensures { TriedLanes t pc w regs.old result regs.new }
 {
-    if opcode < 14 {
+    let Some(op) = compare_at(opcode) else {
         return false;
-    }
-    if 23 < opcode {
-        return false;
-    }
-    let op = compare_at(opcode);
-    let mask = registers::scalar(regs, t, LANE_MASK);
-    let yes = answers(regs, t, op, w / 0x1000 % 64, w / 0x40 % 64);
-    registers::set_scalar(regs, t, w / 0x40000 % 64, yes & mask);
-    registers::advance(regs, t, pc);
-    true
+    };
+    let mask = execution::scalar(regs, t, LANE_MASK);
+    let yes = answers(regs, t, op, field::second(w), field::third(w));
+    execution::set_scalar(regs, t, field::first(w), yes & mask);
+    registers::go_on(regs, t, pc)
 }
 
 // R words, by their flags.
@@ -248,18 +233,15 @@ fn r_word(regs: &mut [u32], t: usize, pc: u32, w: u32) -> bool
     ensures { TriedLanes t pc w regs.old result regs.new }
 {
     let opcode = (w / 0x1000000) as u8;
-    let flags = field::flags_r(w);
-    if flags == 0b1110 {
-        return binary_vectors(regs, t, pc, w);
+    match field::flags_r(w) {
+        0b1110 => binary_vectors(regs, t, pc, w),
+        0b0110 => compare_vectors(regs, t, pc, w, opcode),
+        0b1100 => {
+            let n = registers::operand_b(regs, t, w);
+            binary_number(regs, t, pc, w, opcode, n)
+        }
+        _ => false,
     }
-    if flags == 0b0110 {
-        return compare_vectors(regs, t, pc, w, opcode);
-    }
-    if flags == 0b1100 {
-        let n = registers::operand_b(regs, t, w);
-        return binary_number(regs, t, pc, w, opcode, n);
-    }
-    false
 }
 
 // I words, by their flags.
@@ -268,12 +250,10 @@ fn i_word(regs: &mut [u32], t: usize, pc: u32, w: u32) -> bool
     ensures { TriedLanes t pc w regs.old result regs.new }
 {
     let opcode = (w / 0x1000000 - 0x40) as u8;
-    let flags = field::flags_i(w);
-    let n = word_layout::short_signed(w);
-    if flags == 0b110 {
-        return binary_number(regs, t, pc, w, opcode, n);
+    if field::flags_i(w) != 0b110 {
+        return false;
     }
-    false
+    binary_number(regs, t, pc, w, opcode, word_layout::short_signed(w))
 }
 
 // A load or a store that traps is left to the slow path, which finds the trap again.
@@ -284,16 +264,9 @@ fn load(regs: &mut [u32], memory: &[u8], t: usize, pc: u32, w: u32) -> bool
 {
     let base = registers::operand_a(regs, t, w);
     let offset = word_layout::short_signed(w);
-    let loaded = memory::load_lanes(memory, base, offset);
-    let done = loaded.access;
-    match done {
-        Access::Done => {
-            let lanes = loaded.lanes;
-            put(regs, t, pc, w, lanes);
-            true
-        }
-        Access::Misaligned => false,
-        Access::Outside => false,
+    match memory::load_lanes(memory, base, offset) {
+        Ok(lanes) => put(regs, t, pc, w, lanes),
+        Err(_) => false,
     }
 }
 
@@ -307,16 +280,13 @@ fn store(regs: &mut [u32], memory: &mut [u8], t: usize, pc: u32, w: u32) -> bool
     let offset = word_layout::short_signed(w);
     let v = registers::vector_d(regs, t, w);
     match memory::store_lanes(memory, base, offset, 65535, v) {
-        Access::Done => {
-            registers::advance(regs, t, pc);
-            true
-        }
-        Access::Misaligned => false,
-        Access::Outside => false,
+        Ok(()) => registers::go_on(regs, t, pc),
+        Err(_) => false,
     }
 }
 
-// A load or a store of lanes, with two callers too.
+// A load or a store of lanes. The compiler is to keep it out of the loop of scalar words.
+#[inline(never)]
 pub fn access(regs: &mut [u32], memory: &mut [u8], t: usize, pc: u32, w: u32) -> bool
     requires { InRegisters regs.old t × (pc < 65536) × (field w first_register < program_counter_register) }
     ensures { TriedStore t pc w regs.old memory.old result regs.new memory.new }
@@ -335,16 +305,17 @@ pub fn access(regs: &mut [u32], memory: &mut [u8], t: usize, pc: u32, w: u32) ->
     }
 }
 
-// R and I words, by their format. It has two callers, so that the compiler keeps it out of the loop of scalar words.
+// R and I words, by their format. It is kept out of that loop too.
+#[inline(never)]
 pub fn word(regs: &mut [u32], t: usize, pc: u32, w: u32) -> bool
     requires { InRegisters regs.old t × (pc < 65536) × (field w first_register < program_counter_register) }
     ensures { TriedLanes t pc w regs.old result regs.new }
 {
     if w < 0x40000000 {
-        return r_word(regs, t, pc, w);
+        r_word(regs, t, pc, w)
+    } else if w < 0x60000000 {
+        i_word(regs, t, pc, w)
+    } else {
+        false
     }
-    if w < 0x60000000 {
-        return i_word(regs, t, pc, w);
-    }
-    false
 }

@@ -1,5 +1,5 @@
 -- `family::compare_i` meets its contract.
-use Rattle.std.proofs.Common.{sym, ◌∙◌}
+use Rattle.std.proofs.Common.{◌≡◌, cond, sym, ◌∙◌, rules}
 use Rattle.fast_path.proofs.Families.{compare-I}
 use Rattle.fast_path.proofs.family.compare_i.Goals as goal
 
@@ -7,8 +7,9 @@ pub returns : goal.returns
 returns c memory pc enabled words turns =
     let a = c.args in
     let low = sym c.flags_i.ensures ∙ c.if-flags_i-ne0.false in
+    let number : c.from.result ≡ cond c.compare.result 1 0 = search rules in
     rw (
-      c.number.ensures,
+      number,
       c.compare.ensures,
       c.short_signed-y.ensures,
       c.operand_a-x.ensures,

@@ -1,5 +1,5 @@
 -- `family::compare_r` meets its contract.
-use Rattle.std.proofs.Common.{sym, ◌∙◌}
+use Rattle.std.proofs.Common.{◌≡◌, cond, sym, ◌∙◌, rules}
 use Rattle.fast_path.proofs.Families.{compare-R}
 use Rattle.fast_path.proofs.family.compare_r.Goals as goal
 
@@ -7,8 +7,9 @@ pub returns : goal.returns
 returns c memory pc enabled words turns =
     let a = c.args in
     let low = sym c.flags_r.ensures ∙ c.if-flags_r-ne0.false in
+    let number : c.from.result ≡ cond c.compare.result 1 0 = search rules in
     rw (
-      c.number.ensures,
+      number,
       c.compare.ensures,
       c.operand_b-y.ensures,
       c.operand_a-x.ensures,

@@ -11,7 +11,7 @@ returns-then-register-eq0 c memory pc enabled words turns =
     let a = c.args in
     rw c.long_signed-offset.ensures
     (jumps a.t a.regs.now a.w Jmp (rw c.in-Jmp.is at c.requires.1)
-    (eq-eqb _ 0 (sym c.register-register.ensures ∙ c.if-register-eq0.true)) memory pc enabled words turns)
+    (eq-eqb _ 0 (sym c.first-register.ensures.0 ∙ c.if-register-eq0.true)) memory pc enabled words turns)
 
 -- beqz and bnez
 pub returns-in-Beqz : goal.returns-in-Beqz

@@ -5,15 +5,13 @@ use Rattle.execution.specs.Effect.{context}
 use Rattle.execution.specs.Jump.{jump_to}
 use Rattle.fast_path.proofs.issuing.jump.Goals as goal
 
-pub returns-then-in_program : goal.returns-then-in_program
+pub returns : goal.returns
 unfolding jump_to
-returns-then-in_program c enabled turns =
-    let sum = c.wrapping_add_u32-target in
+returns c enabled turns =
     let a = c.args in
     rw (
       c.set_scalar.ensures,
       ← wrapped (context a.t a.pc enabled a.words turns) a.regs.now a.regs.now a.offset c.requires.1 c.requires.2 (search rules),
-      ← sum.ensures.value,
       ← c.in_program.ensures,
-      c.if-in_program.true,
+      c.if-not-in_program.false,
     )

@@ -1,6 +1,6 @@
 -- `lanes::answers` meets its contract: each compare by one of three, turned or negated.
 use Rattle.std.proofs.Common.{◌∙◌, arith}
-use Rattle.fast_path.proofs.Compares.{at_most, turned, turned-unsigned, not_equal, not-below, not-above, not-below-unsigned, not-above-unsigned}
+use Rattle.fast_path.proofs.Compares.{at_most, turned, turned-unsigned, not_equal, not-below, not-above, not-below-unsigned, not-above-unsigned, no-float}
 use Rattle.fast_path.specs.Types.{Eq, Lt, Ult}
 use Rattle.fast_path.proofs.lanes.answers.Goals as goal
 
@@ -50,19 +50,4 @@ pub returns-in-Ule : goal.returns-in-Ule
 returns-in-Ule c = rw (c.in-Ule.is, c.unsigned_below-in-Ule.ensures) (not-above-unsigned _ _)
 
 pub returns-in-Feq : goal.returns-in-Feq
-returns-in-Feq c = absurd (omega (arith, rw c.in-Feq.is at c.requires.3))
-
-pub returns-in-Fne : goal.returns-in-Fne
-returns-in-Fne c = absurd (omega (arith, rw c.in-Fne.is at c.requires.3))
-
-pub returns-in-Fgt : goal.returns-in-Fgt
-returns-in-Fgt c = absurd (omega (arith, rw c.in-Fgt.is at c.requires.3))
-
-pub returns-in-Fge : goal.returns-in-Fge
-returns-in-Fge c = absurd (omega (arith, rw c.in-Fge.is at c.requires.3))
-
-pub returns-in-Flt : goal.returns-in-Flt
-returns-in-Flt c = absurd (omega (arith, rw c.in-Flt.is at c.requires.3))
-
-pub returns-in-Fle : goal.returns-in-Fle
-returns-in-Fle c = absurd (omega (arith, rw c.in-Fle.is at c.requires.3))
+returns-in-Feq c = absurd (no-float _ c.requires.3 c.in-Feq.is)

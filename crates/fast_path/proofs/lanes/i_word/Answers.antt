@@ -10,7 +10,7 @@ binary_number-requires c =
     let most = c.requires.3 in (
       c.requires.0,
       c.requires.1,
-      rw c.short_signed-n.ensures
+      rw c.short_signed.ensures
           (combines-immediate a.t a.regs.now a.w c.requires.4 (a.w / 2 ^ 24 - 64) (omega arith) (omega arith)
-          (sym c.flags_i-flags.ensures ∙ c.if-flags-eq6.true)),
+          (sym c.flags_i.ensures ∙ c.if-flags_i-ne6.false)),
     )

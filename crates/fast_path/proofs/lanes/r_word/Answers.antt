@@ -5,11 +5,8 @@ use Rattle.fast_path.proofs.lanes.r_word.Goals as goal
 
 pub compare_vectors-requires : goal.compare_vectors-requires
 compare_vectors-requires c =
-    let a = c.args in (
-      c.requires.0,
-      c.requires.1,
-      compares-vectors a.t a.regs.now a.w c.requires.3 c.requires.2 (sym c.flags_r-flags.ensures ∙ c.if-flags-eq6.true),
-    )
+    let a = c.args in
+    (c.requires.0, c.requires.1, compares-vectors a.t a.regs.now a.w c.requires.3 c.requires.2 (sym c.flags_r.ensures ∙ c.in-6.is))
 
 pub binary_number-requires : goal.binary_number-requires
 binary_number-requires c =
@@ -17,5 +14,5 @@ binary_number-requires c =
       c.requires.0,
       c.requires.1,
       rw c.operand_b-n.ensures
-          (combines-number a.t a.regs.now a.w c.requires.3 c.requires.2 (sym c.flags_r-flags.ensures ∙ c.if-flags-eq12.true)),
+          (combines-number a.t a.regs.now a.w c.requires.3 c.requires.2 (sym c.flags_r.ensures ∙ c.in-12.is)),
     )
