@@ -122,7 +122,8 @@ pub fn of_m(opcode: u8) -> Option<MemoryOp>
     }
 }
 
-// The opcode of each operation.
+// The opcode of each operation. Matches, and not numbers at the variants: `Operation` and `MemoryOp` hold others, to which Rust gives no
+// number, and so both directions of a table stand side by side.
 pub fn r_opcode(op: Operation) -> u8
     ensures { result ≡ (row_r op).opcode }
 {

@@ -6,7 +6,7 @@ ghost use Rattle.isa.specs.Types.{J, C};
 use crate::instruction::{ControlOp, Instruction, JumpOp};
 use crate::rule::{c_allows, j_allows, operand_b};
 
-// What an operand is; Nothing where it is left out.
+// What an operand is; Nothing where it is left out. Not an Option of three kinds: who reads a line matches all four at once.
 #[derive(Clone, Copy, Debug, PartialEq, Eq)]
 pub enum Slot {
     ARegister,
@@ -41,17 +41,21 @@ fn free(is: bool, slot: Slot) -> Slot
 fn j_slots(op: JumpOp) -> Slots
     ensures { result ≡ slots (J op 0 0) }
 {
-    let register = free(j_allows(op, 1, 0), Slot::ARegister);
-    let target = free(j_allows(op, 0, 1), Slot::AnImmediate);
-    three(register, target, Slot::Nothing)
+    three(
+        free(j_allows(op, 1, 0), Slot::ARegister),
+        free(j_allows(op, 0, 1), Slot::AnImmediate),
+        Slot::Nothing,
+    )
 }
 
 fn c_slots(op: ControlOp) -> Slots
     ensures { result ≡ slots (C op 0 0) }
 {
-    let first = free(c_allows(op, 1, 0), Slot::ARegister);
-    let second = free(c_allows(op, 0, 1), Slot::ARegister);
-    three(first, second, Slot::Nothing)
+    three(
+        free(c_allows(op, 1, 0), Slot::ARegister),
+        free(c_allows(op, 0, 1), Slot::ARegister),
+        Slot::Nothing,
+    )
 }
 
 // The operands that an instruction has.

@@ -1,4 +1,5 @@
-// Words put together from their parts, each of which has room.
+// Words put together from their parts, each of which has room. A function for each format: one over a list of parts
+// would loop where these add.
 ghost use Rattle.std.specs.Prelude.{◌≡◌, ◌<◌, [], ◌∷◌};
 ghost use Rattle.word_layout.specs.Layout.{pack, layout_r, layout_i, layout_movei, layout_j, layout_c, layout_m, prefix_r, prefix_i, prefix_movei, prefix_j, prefix_c, prefix_m};
 
