@@ -19,7 +19,7 @@ use Rattle.expression.specs.Reading.{parsed_as, evaluated, word_value, grouped, 
 use Rattle.expression.specs.Syntax.{Term, label, group, Sum, next}
 use Rattle.expression.specs.Types.{Sign, Value, Known}
 use Rattle.expression.specs.Value.{plus, bias, value_term, value_sum, value_of}
-use Rattle.std.specs.Prelude as R
+use Rattle.std.specs.Prelude as code
 use Rattle.std.specs.Prelude.{Some, None}
 
 -- nothing is read behind what is not read
@@ -65,7 +65,7 @@ sum-ends line source labels at depth v s w behind h n zero lt = absurd (omega ar
 sum-ends line source labels at depth v s w behind h n (suc m) lt =
     last_on (address_in source labels) depth v s (λ us. sum_at m us) (term_at m (tokens (drop at line))) w (tokens (drop behind line)) (h m (omega arith)) n
 
-pub sum-goes-on : (line source labels : List ℕ) (at depth : ℕ) (v : Value) (s u : Sign) (w : Value) (behind after : ℕ) (r : R.Option (Value × ℕ)) → at < after → after ≤ length line → TermRead line source labels at depth (Some (w, behind)) → some (record { value = u; rest = tokens (drop after line) }) ≡ sign_at (tokens (drop behind line)) → SumRead line source labels after depth (plus v s w) u r → SumRead line source labels at depth v s r
+pub sum-goes-on : (line source labels : List ℕ) (at depth : ℕ) (v : Value) (s u : Sign) (w : Value) (behind after : ℕ) (r : code.Option (Value × ℕ)) → at < after → after ≤ length line → TermRead line source labels at depth (Some (w, behind)) → some (record { value = u; rest = tokens (drop after line) }) ≡ sign_at (tokens (drop behind line)) → SumRead line source labels after depth (plus v s w) u r → SumRead line source labels at depth v s r
 unfolding TermRead SumRead sum_at
 sum-goes-on line source labels at depth v s u w behind after r fwd in-line h n k zero lt = absurd (omega arith)
 sum-goes-on line source labels at depth v s u w behind after r fwd in-line h n k (suc m) lt =
@@ -93,7 +93,7 @@ any-depth : (a : List ℕ → Option ℕ) (depth : ℕ) (w : List ℕ) (ts : Lis
 unfolding word_term
 any-depth a depth w ts = by_number a depth w ts (number_of w)
 
-pub term-word : (line source labels : List ℕ) (at depth start stop : ℕ) (r : R.Option (Value × ℕ)) → tokens (drop at line) ≡ word (slice start stop line) ∷ tokens (drop stop line) → parsed_as line r ≡ word_value (value_term (address_in source labels) 0) (word_term (slice start stop line)) (tokens (drop stop line)) → TermRead line source labels at depth r
+pub term-word : (line source labels : List ℕ) (at depth start stop : ℕ) (r : code.Option (Value × ℕ)) → tokens (drop at line) ≡ word (slice start stop line) ∷ tokens (drop stop line) → parsed_as line r ≡ word_value (value_term (address_in source labels) 0) (word_term (slice start stop line)) (tokens (drop stop line)) → TermRead line source labels at depth r
 unfolding TermRead term_at
 term-word line source labels at depth start stop r e h zero lt = absurd (omega arith)
 term-word line source labels at depth start stop r e h (suc m) lt = rw e (h ∙ any-depth (address_in source labels) depth (slice start stop line) (tokens (drop stop line)))
@@ -113,7 +113,7 @@ shut-on : (a : List ℕ → Option ℕ) (depth : ℕ) (s : Sign) (o : Option (Pa
 shut-on a depth s none i e = rw e
 shut-on a depth s (some f) i e = rw e (by-mark a depth s f.value (past 41 f.rest))
 
-pub term-group : (line source labels : List ℕ) (at depth c behind first : ℕ) (s : Sign) (inside r : R.Option (Value × ℕ)) → at < behind → behind ≤ first → behind ≤ length line → tokens (drop at line) ≡ mark c ∷ tokens (drop behind line) → eqb c 40 ≡ true → record { value = s; rest = tokens (drop first line) } ≡ lead_at (tokens (drop behind line)) → SumRead line source labels first (depth - 1) (Known bias) s inside → parsed_as line r ≡ grouped depth (parsed_as line inside) → TermRead line source labels at depth r
+pub term-group : (line source labels : List ℕ) (at depth c behind first : ℕ) (s : Sign) (inside r : code.Option (Value × ℕ)) → at < behind → behind ≤ first → behind ≤ length line → tokens (drop at line) ≡ mark c ∷ tokens (drop behind line) → eqb c 40 ≡ true → record { value = s; rest = tokens (drop first line) } ≡ lead_at (tokens (drop behind line)) → SumRead line source labels first (depth - 1) (Known bias) s inside → parsed_as line r ≡ grouped depth (parsed_as line inside) → TermRead line source labels at depth r
 unfolding TermRead SumRead term_at
 term-group line source labels at depth c behind first s inside r fwd lead in-line e h l i d zero lt = absurd (omega arith)
 term-group line source labels at depth c behind first s inside r fwd lead in-line e h l i d (suc m) lt =
@@ -137,7 +137,7 @@ unfolding tokens_in
 few [] g = omega arith
 few (c ∷ cs) g = few-by c cs g (is_blank c) (in_word c) refl refl (few cs)
 
-pub expression-read : (line source labels : List ℕ) (at first : ℕ) (s : Sign) (r : R.Option (Value × ℕ)) → record { value = s; rest = tokens (drop first line) } ≡ lead_at (tokens (drop at line)) → SumRead line source labels first 8 (Known bias) s r → parsed_as line r ≡ evaluated (value_of (address_in source labels)) (expression_at (tokens (drop at line)))
+pub expression-read : (line source labels : List ℕ) (at first : ℕ) (s : Sign) (r : code.Option (Value × ℕ)) → record { value = s; rest = tokens (drop first line) } ≡ lead_at (tokens (drop at line)) → SumRead line source labels first 8 (Known bias) s r → parsed_as line r ≡ evaluated (value_of (address_in source labels)) (expression_at (tokens (drop at line)))
 unfolding SumRead expression_at
 expression-read line source labels at first s r l i =
     let ts = tokens (drop first line) in

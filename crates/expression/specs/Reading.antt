@@ -1,6 +1,6 @@
 -- The cases of the code's answers about expressions.
 use Rattle.std.specs.Prelude.{ℕ, ◌+◌, ◌-◌, ◌*◌, ◌≤◌, ◌<◌, List, ◌≡◌, length, drop, Some, None}
-use Rattle.std.specs.Prelude as R
+use Rattle.std.specs.Prelude as code
 use Rattle.std.proofs.Math.Option.{Option, none, some}
 use Rattle.expression.specs.Grammar.{Parse, parse, term_at, sum_at}
 use Rattle.token.specs.Token.{past, Token, tokens}
@@ -17,11 +17,11 @@ InRange TooLarge = 0 ≤ 0
 InRange Unknown = 0 ≤ 0
 
 -- the value that a word is as a term
-abbrev pub term_valued : R.Option Value → Option Value
+abbrev pub term_valued : code.Option Value → Option Value
 term_valued (Some v) = some v
 term_valued None = none
 
-abbrev pub TermInRange : R.Option Value → Type 0
+abbrev pub TermInRange : code.Option Value → Type 0
 TermInRange (Some v) = InRange v
 TermInRange None = 0 ≤ 0
 
@@ -30,11 +30,11 @@ term_value_of f none = none
 term_value_of f (some t) = some (f t)
 
 -- a sign and the tokens behind it
-abbrev pub signed : List ℕ → R.Option (Sign × ℕ) → Option (Parse Sign)
+abbrev pub signed : List ℕ → code.Option (Sign × ℕ) → Option (Parse Sign)
 signed line (Some (s, next)) = parse s (tokens (drop next line))
 signed line None = none
 
-abbrev pub SignAdvances : ℕ → ℕ → R.Option (Sign × ℕ) → Type 0
+abbrev pub SignAdvances : ℕ → ℕ → code.Option (Sign × ℕ) → Type 0
 SignAdvances at end (Some (s, next)) = (at < next) × (next ≤ end)
 SignAdvances at end None = 0 ≤ 0
 
@@ -42,7 +42,7 @@ abbrev pub lead_of : List ℕ → Sign × ℕ → Parse Sign
 lead_of line (s, next) = record { value = s; rest = tokens (drop next line) }
 
 -- a value and the tokens behind it
-abbrev pub parsed_as : List ℕ → R.Option (Value × ℕ) → Option (Parse Value)
+abbrev pub parsed_as : List ℕ → code.Option (Value × ℕ) → Option (Parse Value)
 parsed_as line (Some (v, at)) = some (record { value = v; rest = tokens (drop at line) })
 parsed_as line None = none
 
@@ -66,26 +66,26 @@ evaluated f none = none
 evaluated f (some a) = some (record { value = f a.value; rest = a.rest })
 
 -- what was read ends behind its start and within the line
-abbrev pub Advances : ℕ → ℕ → R.Option (Value × ℕ) → Type 0
+abbrev pub Advances : ℕ → ℕ → code.Option (Value × ℕ) → Type 0
 Advances at end (Some (v, next)) = (at < next) × (next ≤ end) × InRange v
 Advances at end None = 0 ≤ 0
 
-abbrev pub ParsedInRange : R.Option (Value × ℕ) → Type 0
+abbrev pub ParsedInRange : code.Option (Value × ℕ) → Type 0
 ParsedInRange (Some (v, next)) = InRange v
 ParsedInRange None = 0 ≤ 0
 
 -- and behind what was read before it
-abbrev pub AdvancesPast : ℕ → R.Option (Value × ℕ) → R.Option (Value × ℕ) → Type 0
+abbrev pub AdvancesPast : ℕ → code.Option (Value × ℕ) → code.Option (Value × ℕ) → Type 0
 AdvancesPast end (Some (v, next)) r = Advances next end r
 AdvancesPast end None r = r ≡ None
 
 -- What `term` and `sum` promise, at whatever number bounds the calls, if it is large enough.
-unfoldable pub TermRead : List ℕ → List ℕ → List ℕ → ℕ → ℕ → R.Option (Value × ℕ) → Type 0
+unfoldable pub TermRead : List ℕ → List ℕ → List ℕ → ℕ → ℕ → code.Option (Value × ℕ) → Type 0
 TermRead line source labels at depth r =
     (n : ℕ) → 2 * (length line - at) < n
     → parsed_as line r ≡ evaluated (value_term (address_in source labels) depth) (term_at n (tokens (drop at line)))
 
-unfoldable pub SumRead : List ℕ → List ℕ → List ℕ → ℕ → ℕ → Value → Sign → R.Option (Value × ℕ) → Type 0
+unfoldable pub SumRead : List ℕ → List ℕ → List ℕ → ℕ → ℕ → Value → Sign → code.Option (Value × ℕ) → Type 0
 SumRead line source labels at depth v s r =
     (n : ℕ) → 2 * (length line - at) + 1 < n
     → parsed_as line r ≡ evaluated (value_sum (address_in source labels) depth v s) (sum_at n (tokens (drop at line)))

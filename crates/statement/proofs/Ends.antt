@@ -1,29 +1,33 @@
 -- A text up to a byte: a line's end, or its comment.
-use Prim.Native.Nat.{ℕ, zero, suc, ◌+◌, ◌<◌, ◌≤◌}
-use mathlib.Core.Bool.{Bool, true, false}
+use Prim.Native.Nat.{ℕ, zero, suc, ◌+◌, ◌≤◌}
+use mathlib.Core.Bool.{Bool, true, false, cond, not}
 use mathlib.Core.List.{List, [], ◌∷◌}
 use mathlib.Core.Path.{◌≡◌, refl, ap, ◌∙◌}
-use native.Mathlib.Numerals.{add-one}
 use native.Mathlib.Omega.{arith}
-use borrow.Author.Tests.{eq-eqb, ne_eqb, eqb-true}
+use borrow.Author.Tests.{eqb-true}
 use lib.Dec.{eqb}
-use lib.ListN.{length, take, drop, get_or, drop_of_length-le}
-use lib.Seq.{drop-cons}
+use lib.ListN.{length, take, drop}
+use Rattle.std.specs.List.{prefix_len}
+use Rattle.std.proofs.lemmas.List.Recursion.{same_from_clauses}
+use Rattle.std.proofs.lemmas.List.Folds.{length-prefix_len}
 use Rattle.token.specs.Byte.{in_word}
 use Rattle.token.specs.Token.{leading_word}
 use Rattle.statement.specs.Line.{up_to}
 
-pub upto-on : (c : ℕ) (l : List ℕ) (i : ℕ) → i < length l → (get_or l i 0 ≡ c → ⊥) → (i + 1) + length (up_to c (drop (i + 1) l)) ≡ i + length (up_to c (drop i l))
-unfolding up_to
-upto-on c l i h e = rw (drop-cons l i 0 h, ne_eqb (get_or l i 0) c e, add-one i) (omega arith)
+count_by : (b : Bool) (n : ℕ) → cond (not b) (1 + n) 0 ≡ cond b 0 (suc n)
+count_by true n = refl
+count_by false n = omega arith
 
-pub upto-stops : (c : ℕ) (l : List ℕ) (i : ℕ) → i < length l → get_or l i 0 ≡ c → i ≡ i + length (up_to c (drop i l))
-unfolding up_to
-upto-stops c l i h e = rw (drop-cons l i 0 h, eq-eqb (get_or l i 0) c e) (omega arith)
+length_by : (d : ℕ) (ds : List ℕ) (b : Bool) → length (cond b [] (d ∷ ds)) ≡ cond b 0 (suc (length ds))
+length_by d ds true = refl
+length_by d ds false = refl
 
-pub upto-ends : (c : ℕ) (l : List ℕ) (i : ℕ) → length l ≤ i → i ≡ i + length (up_to c (drop i l))
+-- what the code counts: the bytes from the front that are not c
+pub upto_counted : (c : ℕ) (l : List ℕ) → length (take (prefix_len (λ d. not (eqb d c)) l) l) ≡ length (up_to c l)
 unfolding up_to
-upto-ends c l i h = rw (drop_of_length-le l {i = i} h) (omega arith)
+upto_counted c l =
+    length-prefix_len (λ d. not (eqb d c)) l
+    ∙ same_from_clauses (prefix_len (λ d. not (eqb d c))) (λ t. length (up_to c t)) (λ d n. cond (eqb d c) 0 (suc n)) refl (λ d t. count_by (eqb d c) (prefix_len (λ d. not (eqb d c)) t)) (λ d t. length_by d (up_to c t) (eqb d c)) l
 
 take_by : (c d : ℕ) (ds : List ℕ) (b : Bool) → eqb d c ≡ b → take (length (up_to c ds)) ds ≡ up_to c ds → take (length (up_to c (d ∷ ds))) (d ∷ ds) ≡ up_to c (d ∷ ds)
 unfolding up_to

@@ -5,6 +5,7 @@ pub mod Named
 pub mod Fielded
 pub mod Ends
 pub mod Letters
+pub mod Tokens
 pub mod Saying
 pub mod Claims
 pub mod Shortest

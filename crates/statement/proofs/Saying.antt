@@ -16,7 +16,9 @@ use Rattle.statement.specs.Field.{operand_values_of, operands_evaluated}
 use Rattle.statement.specs.Line.{ended, instruction_by, label_line, uncommented, word_end}
 use Rattle.statement.specs.Evaluation.{label, code, evaluated_line, line_value, LabelInside}
 use Rattle.statement.specs.declared.lines.Line.{Line as Line-as-Line}
-use Rattle.statement.specs.declared.lines.Line.TheVariants.{Malformed, Blank, Label, Code}
+use Rattle.statement.specs.declared.lines.Line.TheVariants.{Blank, Label, Code}
+use Rattle.std.specs.Prelude.{Some, None}
+use Rattle.std.specs.Prelude as std
 use Rattle.statement.proofs.Ends.{word-in-line, upto-short}
 use lib.ListN.{length, drop}
 
@@ -71,14 +73,14 @@ word_end_lem l s e h q =
     ap (λ i. i + length (leading_word (drop i l))) k ∙ sym q
 
 -- a line without its comment says what the line says
-pub seen-in-line : (l : List ℕ) (r : Line-as-Line) → LabelInside (length (uncommented l)) r → line_value (uncommented l) r ≡ line_value l r
-seen-in-line l Malformed h = refl
-seen-in-line l Blank h = refl
-seen-in-line l (Label start) h = rw (word-in-line 59 l start refl (omega arith))
-seen-in-line l (Code i f) h = refl
+pub seen-in-line : (l : List ℕ) (r : std.Option Line-as-Line) → LabelInside (length (uncommented l)) r → line_value (uncommented l) r ≡ line_value l r
+seen-in-line l None h = refl
+seen-in-line l (Some Blank) h = refl
+seen-in-line l (Some (Label start)) h = rw (word-in-line 59 l start refl (omega arith))
+seen-in-line l (Some (Code i f)) h = refl
 
-pub label-in : (l : List ℕ) (r : Line-as-Line) → LabelInside (length (uncommented l)) r → LabelInside (length l) r
-label-in l Malformed h = h
-label-in l Blank h = h
-label-in l (Label start) h = omega (arith, upto-short 59 l)
-label-in l (Code i f) h = h
+pub label-in : (l : List ℕ) (r : std.Option Line-as-Line) → LabelInside (length (uncommented l)) r → LabelInside (length l) r
+label-in l None h = h
+label-in l (Some Blank) h = h
+label-in l (Some (Label start)) h = omega (arith, upto-short 59 l)
+label-in l (Some (Code i f)) h = h

@@ -1,5 +1,6 @@
 -- Operands as the code holds them: three registers, how many there are, and a value.
-use Rattle.std.specs.Prelude.{ℕ, false, cond, List, [], ◌∷◌, eqb, drop, get_or}
+use Rattle.std.specs.Prelude.{ℕ, false, cond, List, [], ◌∷◌, eqb, drop, get_or, Some, None}
+use Rattle.std.specs.Prelude as code
 use Rattle.std.proofs.Math.Option.{Option, none, some}
 use Rattle.expression.specs.Grammar.{Parse, parse, expression_at}
 use Rattle.token.specs.Token.{past, Token, tokens}
@@ -7,8 +8,6 @@ use Rattle.expression.specs.Reading.{evaluated}
 use Rattle.expression.specs.Syntax.{Expression}
 use Rattle.expression.specs.Value.{bias, value_of}
 use Rattle.statement.specs.Types.{Value, Known, Register, Slot, ARegister, AnImmediate, AnAddress, Nothing, OperandValues}
-use Rattle.statement.specs.declared.operands.OperandsAt.{OperandsAt}
-use Rattle.statement.specs.declared.operands.OperandsAt.TheVariants.{Read, Malformed}
 use Rattle.statement.specs.Mnemonic.{is_operand}
 use Rattle.statement.specs.Register.{reg, register_at, bracket_at}
 use Rattle.statement.specs.Operand.{Operands}
@@ -85,9 +84,9 @@ unfoldable pub field_on : (List ℕ → Option ℕ) → Slot → Option (Parse O
 field_on a s o = cond (is_operand s) (field_next a s o) o
 
 -- the code's answers
-abbrev pub operands_seen : List ℕ → OperandsAt → Option (Parse OperandValues)
-operands_seen line (Read f at) = parse f (tokens (drop at line))
-operands_seen line Malformed = none
+abbrev pub operands_seen : List ℕ → code.Option (OperandValues × ℕ) → Option (Parse OperandValues)
+operands_seen line (Some (f, at)) = parse f (tokens (drop at line))
+operands_seen line None = none
 
 abbrev pub operands_evaluated : (List ℕ → Option ℕ) → Option (Parse Operands) → Option (Parse OperandValues)
 operands_evaluated a none = none

@@ -1,11 +1,10 @@
 -- The instruction of a line, and its word.
-use Rattle.std.specs.Prelude.{ℕ, ◌+◌, ◌-◌, ◌*◌, ◌%◌, ◌^◌, Bool, true, false, ◌&&◌, not}
+use Rattle.std.specs.Prelude.{ℕ, ◌+◌, ◌-◌, ◌*◌, ◌%◌, ◌^◌, Bool, true, false, ◌&&◌, not, Some, None}
+use Rattle.std.specs.Prelude as code
 use Rattle.std.proofs.Math.Option.{Option, none, some}
 use Rattle.answer.specs.Answer.{Answer, given, refused}
 use Rattle.isa.specs.Rule.{allows_j}
 use Rattle.isa.specs.Write.{write}
-use Rattle.isa.specs.declared.instruction.Writing.{Writing}
-use Rattle.isa.specs.declared.instruction.Writing.TheVariants.{Word, NoWord}
 use Rattle.statement.specs.Types.{Instruction, R, I, Movei, J, C, M, MemoryOp, Load, Store, LoadVector, StoreVector}
 use Rattle.statement.specs.Types.{Register}
 use Rattle.statement.specs.Field.{nth}
@@ -69,6 +68,6 @@ abbrev pub word_of : Instruction → Operands → ℕ → ℕ → Option ℕ
 word_of i os v at = word_for (meaning_of i os v at)
 
 -- the code's answer
-abbrev pub word_in : Writing → Option ℕ
-word_in (Word w) = some w
-word_in NoWord = none
+abbrev pub word_in : code.Option ℕ → Option ℕ
+word_in (Some w) = some w
+word_in None = none

@@ -7,7 +7,7 @@ mod operands;
 mod registers;
 mod words;
 
-pub use lines::{Line, line_of};
+pub use lines::{Line, line_of, up_to};
 pub use operands::OperandValues;
 pub use registers::Register;
 pub use words::word_of;

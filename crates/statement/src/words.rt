@@ -1,4 +1,6 @@
 // The word of a line.
+#![tactic(auto, unfolding(crate::specs::Meaning::meaning_with))]
+
 ghost use Rattle.std.specs.Prelude.{◌≡◌, ◌≤◌, false};
 ghost use Rattle.statement.specs.Register.{reg};
 ghost use Rattle.statement.specs.Types.{R, I, Movei, J, C, M};
@@ -7,58 +9,42 @@ ghost use Rattle.statement.specs.Meaning.{offset_from, word_for, word_with, word
 
 use crate::operands::{OperandValues, is_operand};
 use crate::registers::Register;
-use isa::{
-    ControlOp, Instruction, JumpOp, MemoryOp, MoveiOp, Operation, Writing, slots_of, write_word,
-};
+use isa::{ControlOp, Instruction, JumpOp, MemoryOp, MoveiOp, Operation, slots_of, write_word};
 
 fn bit(vector: bool) -> u32
     ensures value { result ≡ Meaning·bit vector }
     ensures small { result ≤ 1 }
 {
-    if vector { 1 } else { 0 }
+    u32::from(vector)
 }
 
 fn is_vector(op: MemoryOp) -> bool
     ensures { result ≡ is_vector_m op }
 {
-    match op {
-        MemoryOp::Load(_) => false,
-        MemoryOp::Store(_) => false,
-        MemoryOp::LoadVector => true,
-        MemoryOp::StoreVector => true,
-    }
+    matches!(op, MemoryOp::LoadVector | MemoryOp::StoreVector)
 }
 
 fn same_letter(wanted: bool, vector: bool) -> bool
     ensures { result ≡ same_letter wanted vector }
 {
-    if wanted {
-        return vector;
-    }
-    !vector
+    wanted == vector
 }
 
-fn lettered(right: bool, i: Instruction) -> Writing
+fn lettered(right: bool, i: Instruction) -> Option<u32>
     ensures { word_in result ≡ word_for (Meaning·lettered right i) }
 {
-    if right {
-        return write_word(i);
-    }
-    Writing::NoWord
+    if right { write_word(i) } else { None }
 }
 
 fn offset(has: bool, target: u32, at: u32) -> u32
     ensures { result ≡ offset_from has target at }
 {
-    if has {
-        return ((target as u64 + 0x100000000 - at as u64) % 0x100000000) as u32;
-    }
-    0
+    if has { target.wrapping_sub(at) } else { 0 }
 }
 
 // The words of the six formats, with these registers.
 
-fn r_word(op: Operation, x: Register, y: Register, z: Register) -> Writing
+fn r_word(op: Operation, x: Register, y: Register, z: Register) -> Option<u32>
     ensures { word_in result ≡ word_with (R op 0 0 0 0) x y z 0 0 }
 {
     let flags = 4 * bit(x.vector) + 2 * bit(y.vector) + bit(z.vector);
@@ -74,7 +60,7 @@ fn r_word(op: Operation, x: Register, y: Register, z: Register) -> Writing
     )
 }
 
-fn i_word(op: Operation, x: Register, y: Register, number: u32) -> Writing
+fn i_word(op: Operation, x: Register, y: Register, number: u32) -> Option<u32>
     ensures { word_in result ≡ word_with (I op 0 0 0 0) x y (reg false 0) number 0 }
 {
     let flags = 2 * bit(x.vector) + bit(y.vector);
@@ -90,7 +76,7 @@ fn i_word(op: Operation, x: Register, y: Register, number: u32) -> Writing
     )
 }
 
-fn movei_word(op: MoveiOp, x: Register, number: u32) -> Writing
+fn movei_word(op: MoveiOp, x: Register, number: u32) -> Option<u32>
     ensures { word_in result ≡ word_with (Movei op 0 0 0) x (reg false 0) (reg false 0) number 0 }
 {
     lettered(
@@ -104,7 +90,7 @@ fn movei_word(op: MoveiOp, x: Register, number: u32) -> Writing
     )
 }
 
-fn j_word(op: JumpOp, x: Register, number: u32, at: u32) -> Writing
+fn j_word(op: JumpOp, x: Register, number: u32, at: u32) -> Option<u32>
     ensures { word_in result ≡ word_with (J op 0 0) x (reg false 0) (reg false 0) number at }
 {
     let slots = slots_of(Instruction::J {
@@ -112,18 +98,17 @@ fn j_word(op: JumpOp, x: Register, number: u32, at: u32) -> Writing
         register: 0,
         offset: 0,
     });
-    let target = slots.second;
     lettered(
         !x.vector,
         Instruction::J {
             op,
             register: x.number,
-            offset: offset(is_operand(target), number, at),
+            offset: offset(is_operand(slots.second), number, at),
         },
     )
 }
 
-fn c_word(op: ControlOp, x: Register, y: Register) -> Writing
+fn c_word(op: ControlOp, x: Register, y: Register) -> Option<u32>
     ensures { word_in result ≡ word_with (C op 0 0) x y (reg false 0) 0 0 }
 {
     lettered(
@@ -136,7 +121,7 @@ fn c_word(op: ControlOp, x: Register, y: Register) -> Writing
     )
 }
 
-fn m_word(op: MemoryOp, x: Register, y: Register, number: u32) -> Writing
+fn m_word(op: MemoryOp, x: Register, y: Register, number: u32) -> Option<u32>
     ensures { word_in result ≡ word_with (M op 0 0 0) x y (reg false 0) number 0 }
 {
     lettered(
@@ -151,48 +136,18 @@ fn m_word(op: MemoryOp, x: Register, y: Register, number: u32) -> Writing
 }
 
 // The word of an instruction of this name, with these operands and this number modulo 2^32, that stands at an address.
-pub fn word_of(name: Instruction, f: OperandValues, number: u32, at: u32) -> Writing
+pub fn word_of(name: Instruction, f: OperandValues, number: u32, at: u32) -> Option<u32>
     ensures { word_in result ≡ word_with name f.first f.second f.third number at }
 {
     let x = f.first;
     let y = f.second;
     let z = f.third;
     match name {
-        Instruction::R {
-            op,
-            flags: _,
-            d: _,
-            a: _,
-            b: _,
-        } => r_word(op, x, y, z),
-        Instruction::I {
-            op,
-            flags: _,
-            d: _,
-            a: _,
-            immediate: _,
-        } => i_word(op, x, y, number),
-        Instruction::Movei {
-            op,
-            flag: _,
-            d: _,
-            immediate: _,
-        } => movei_word(op, x, number),
-        Instruction::J {
-            op,
-            register: _,
-            offset: _,
-        } => j_word(op, x, number, at),
-        Instruction::C {
-            op,
-            first: _,
-            second: _,
-        } => c_word(op, x, y),
-        Instruction::M {
-            op,
-            register: _,
-            base: _,
-            offset: _,
-        } => m_word(op, x, y, number),
+        Instruction::R { op, .. } => r_word(op, x, y, z),
+        Instruction::I { op, .. } => i_word(op, x, y, number),
+        Instruction::Movei { op, .. } => movei_word(op, x, number),
+        Instruction::J { op, .. } => j_word(op, x, number, at),
+        Instruction::C { op, .. } => c_word(op, x, y),
+        Instruction::M { op, .. } => m_word(op, x, y, number),
     }
 }

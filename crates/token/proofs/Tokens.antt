@@ -11,7 +11,7 @@ use lib.ListN.{length, drop, get_or}
 use Rattle.token.proofs.Runs.{skipped, behind-blanks, none_left, a-mark, a_word, run_fits}
 use Rattle.token.specs.Token.{past, leading_blanks, leading_word, tokens}
 use Rattle.token.specs.Scan.{token_from, past_token, place_past, beginning_with, TokenAdvances, WholeWord, place_of, PlaceAdvances}
-use Rattle.std.specs.Prelude as R
+use Rattle.std.specs.Prelude as code
 use Rattle.std.specs.Prelude.{Some, None}
 use Rattle.token.specs.declared.token.Token.{Token}
 use Rattle.token.specs.declared.token.Token.TheVariants.{End, Word, Mark}
@@ -67,6 +67,6 @@ past_by c line at (Mark d next) h = (rw h.0 (this (eqb d c)), that (eqb d c))
     that true = h.1.0
     that false = omega arith
 
-pub place_read : (c : ℕ) (line : List ℕ) (at : ℕ) (r : R.Option ℕ) → r ≡ place_past c line at → (place_of line r ≡ past c (tokens (drop at line))) × PlaceAdvances at (length line) r
+pub place_read : (c : ℕ) (line : List ℕ) (at : ℕ) (r : code.Option ℕ) → r ≡ place_past c line at → (place_of line r ≡ past c (tokens (drop at line))) × PlaceAdvances at (length line) r
 unfolding place_past
 place_read c line at r e = rw e (past_by c line at (token_from line at) (token-read line at (token_from line at) refl))

@@ -1,6 +1,6 @@
 -- The cases of the code's answers about tokens and words.
 use Rattle.std.specs.Prelude.{ℕ, ◌+◌, ◌≤◌, ◌<◌, cond, List, [], ◌∷◌, ◌≡◌, eqb, leb, length, drop, get_or, Some, None}
-use Rattle.std.specs.Prelude as R
+use Rattle.std.specs.Prelude as code
 use Rattle.std.proofs.Math.Option.{Option, none, some}
 use Rattle.std.proofs.Math.Seq.{slice}
 use Rattle.token.specs.Token as T
@@ -17,12 +17,12 @@ unfoldable pub token_from : List ℕ → ℕ → Token
 token_from line at = token_starting line (at + T.leading_blanks (drop at line))
 
 -- behind a mark, if it is the token
-abbrev pub past_token : ℕ → Token → R.Option ℕ
+abbrev pub past_token : ℕ → Token → code.Option ℕ
 past_token c End = None
 past_token c (Word start stop) = None
 past_token c (Mark d next) = cond (eqb d c) (Some next) None
 
-unfoldable pub place_past : ℕ → List ℕ → ℕ → R.Option ℕ
+unfoldable pub place_past : ℕ → List ℕ → ℕ → code.Option ℕ
 place_past c line at = past_token c (token_from line at)
 
 -- the tokens of which one is the first
@@ -43,10 +43,10 @@ WholeWord line at (Word start stop) =
     (start ≡ at + T.leading_blanks (drop at line)) × (stop ≡ start + length (T.leading_word (drop start line)))
 WholeWord line at (Mark c next) = 0 ≤ 0
 
-abbrev pub place_of : List ℕ → R.Option ℕ → Option (List T.Token)
+abbrev pub place_of : List ℕ → code.Option ℕ → Option (List T.Token)
 place_of line (Some next) = some (T.tokens (drop next line))
 place_of line None = none
 
-abbrev pub PlaceAdvances : ℕ → ℕ → R.Option ℕ → Type 0
+abbrev pub PlaceAdvances : ℕ → ℕ → code.Option ℕ → Type 0
 PlaceAdvances at end (Some next) = (at < next) × (next ≤ end)
 PlaceAdvances at end None = 0 ≤ 0

@@ -1,6 +1,6 @@
 -- The cases of the code's answers about words.
 use Rattle.std.specs.Prelude.{ℕ, ◌+◌, cond, ltb, Some, None}
-use Rattle.std.specs.Prelude as R
+use Rattle.std.specs.Prelude as code
 use Rattle.std.proofs.Math.Option.{Option, none, some}
 use Rattle.token.specs.Number.{limit}
 
@@ -12,6 +12,6 @@ abbrev pub capped : Option ℕ → Option ℕ
 capped none = none
 capped (some n) = some (cap n)
 
-abbrev pub numbered : R.Option ℕ → Option ℕ
+abbrev pub numbered : code.Option ℕ → Option ℕ
 numbered (Some n) = some n
 numbered None = none

@@ -1,14 +1,9 @@
 -- `first_named` meets its contract: no row passed over has the word as its name.
-use Rattle.statement.specs.Rows.{in_rows}
+use Rattle.std.proofs.Common.{◌≡◌, drop}
+use Rattle.std.proofs.Math.Option.{none}
 use Rattle.names.specs.Rows.{rows}
-use Prim.Native.Nat.{◌-◌}
-use mathlib.Core.Option.{none}
-use mathlib.Core.Path.{◌≡◌}
-use lib.ListN.{drop}
+use Rattle.statement.specs.Rows.{in_rows}
 use Rattle.statement.proofs.mnemonics.first_named.Given as goal
 
-abbrev pub invariant-loop-k : goal.invariant-loop-k
-invariant-loop-k l = in_rows l.immediate (drop l.k rows) l.word none ≡ in_rows l.immediate rows l.word none
-
-abbrev pub decreases-loop-k : goal.decreases-loop-k
-decreases-loop-k l = 61 - l.k
+abbrev pub invariant-loop-row : goal.invariant-loop-row
+invariant-loop-row l = in_rows l.immediate (drop l.row-index rows) l.word none ≡ in_rows l.immediate rows l.word none

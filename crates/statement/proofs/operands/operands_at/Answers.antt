@@ -1,10 +1,9 @@
 -- `operands_at` meets its contract.
-use Rattle.statement.proofs.Fielded.{all-fields}
-use Rattle.statement.specs.Field.{field_on}
+use Rattle.std.proofs.Common.{ap, ◌∙◌, drop}
 use Rattle.token.specs.Token.{tokens}
 use Rattle.expression.specs.Label.{address_in}
-use lib.ListN.{drop}
-use mathlib.Core.Path.{ap, ◌∙◌}
+use Rattle.statement.specs.Field.{field_on}
+use Rattle.statement.proofs.Fielded.{all-fields}
 use Rattle.statement.proofs.operands.operands_at.Goals as goal
 
 pub returns : goal.returns

@@ -2,8 +2,14 @@
 use Rattle.token.proofs.Tokens.{place_read}
 use Rattle.statement.proofs.registers.bracket_at.Goals as goal
 
-pub returns-in-At : goal.returns-in-At
-returns-in-At c = rw (← (place_read _ _ _ _ c.past_mark-place.ensures).0, c.in-At.is, ← c.register_at.ensures) c.closed.ensures
+pub returns-in_err-inside : goal.returns-in_err-inside
+returns-in_err-inside c = rw (c.from_residual.ensures, ← (place_read _ _ _ _ c.in_err-inside.ensures).0)
 
-pub returns-in-NoPlace : goal.returns-in-NoPlace
-returns-in-NoPlace c = rw (← (place_read _ _ _ _ c.past_mark-place.ensures).0, c.in-NoPlace.is)
+pub returns-in_err-r : goal.returns-in_err-r
+returns-in_err-r c = rw (c.from_residual-in_err-r.ensures, ← (place_read _ _ _ _ c.in_ok-inside.ensures).0, ← c.in_err-r.ensures)
+
+pub returns-in_err-after : goal.returns-in_err-after
+returns-in_err-after c = rw (c.from_residual-in_err-after.ensures, ← (place_read _ _ _ _ c.in_ok-inside.ensures).0, ← c.in_ok-r.ensures, ← (place_read _ _ _ _ c.in_err-after.ensures).0)
+
+pub returns : goal.returns
+returns c = rw (← (place_read _ _ _ _ c.in_ok-inside.ensures).0, ← c.in_ok-r.ensures, ← (place_read _ _ _ _ c.in_ok-after.ensures).0)

@@ -1,7 +1,0 @@
--- `movei_word` meets its contract.
-use Rattle.statement.specs.Meaning.{meaning_with}
-use Rattle.statement.proofs.words.movei_word.Goals as goal
-
-pub returns : goal.returns
-unfolding meaning_with
-returns c = rw (← c.bit.ensures.value) c.lettered.ensures

@@ -1,7 +1,0 @@
--- `r_word` meets its contract.
-use Rattle.statement.specs.Meaning.{meaning_with}
-use Rattle.statement.proofs.words.r_word.Goals as goal
-
-pub returns : goal.returns
-unfolding meaning_with
-returns c = rw (← c.bit.ensures.value, ← c.bit-2.ensures.value, ← c.bit-3.ensures.value) c.lettered.ensures
