@@ -8,13 +8,14 @@ use Rattle.answer.specs.Answer.{Answer, given, refused}
 use Rattle.machine.proofs.Claims.{chooses, chooses_none}
 use Rattle.machine.proofs.Tests.{never}
 use Rattle.machine.proofs.Threads.{none-at, some-thread}
-use Rattle.machine.specs.Scheduler.{runs, waits, choice, some_waits}
+use Rattle.std.specs.Prelude.{Some, None}
+use Rattle.machine.specs.Scheduler.{Choice, runs, waits, choice, some_waits}
 use Rattle.interpreter.proofs.Issuing.{chosen-thread}
 use Rattle.interpreter.specs.Answer.{Ending, stopped, stuck, spent}
 use Rattle.interpreter.specs.Choosing.{if_chosen, reached, idle_ending, ending_at}
 use Rattle.interpreter.specs.Claims.{NoThread, SomeThread, EndsBy, EndsByRecord}
 use Rattle.interpreter.specs.Run.{run_reached, run_answer}
-use Rattle.interpreter.specs.Types.{Machine, Choice, Chosen, NoneRunning}
+use Rattle.interpreter.specs.Types.{Machine}
 
 -- two statements that both hold, and two that both fail
 hold : {A B : Type 0} → A → B → A ↔ B
@@ -55,14 +56,14 @@ module _ (m : Machine) where
       }
 
   ending : (c : Choice) → choice m ≡ c → EndsBy m (given (if_chosen c (λ t. spent) (cond (some_waits m) stuck stopped)))
-  ending (Chosen t d) h =
-      let some : SomeThread (runs m) = (t, chosen-thread m t d h, ((chooses m t d).0 h).running) in
+  ending (Some x) h =
+      let some : SomeThread (runs m) = (x.thread, chosen-thread m x.thread x.distance h, ((chooses m x.thread x.distance).0 h).running) in
       record {
         stuck-exactly = fail (differ spent stuck (λ z. omega arith)) (λ k. not-both k.0 some);
         stopped-exactly = fail (differ spent stopped (λ z. omega arith)) (λ k. not-both k.0 some);
         spent-exactly = hold refl some;
       }
-  ending NoneRunning h = idle ((chooses_none m).0 h) (some_waits m) refl
+  ending None h = idle ((chooses_none m).0 h) (some_waits m) refl
 
 pub ends-by-record : EndsByRecord
 unfolding run_reached run_answer ending_at idle_ending

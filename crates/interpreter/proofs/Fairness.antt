@@ -15,7 +15,8 @@ use Rattle.machine.proofs.Tests.{never}
 use Rattle.machine.specs.Claims.{FirstAfterLast}
 use Rattle.bits.specs.Bit.{bit}
 use Rattle.machine.specs.Machine.{count_threads}
-use Rattle.machine.specs.Scheduler.{runs, after, choice}
+use Rattle.std.specs.Prelude.{Some, None}
+use Rattle.machine.specs.Scheduler.{some_chosen, Choice, runs, choice}
 use Rattle.thread_entry.specs.Status.{limits}
 use Rattle.machine.specs.WellFormed.{well_formed}
 use Rattle.interpreter.specs.Choosing.{Issue, if_chosen, issued, issues, reached}
@@ -24,12 +25,12 @@ use Rattle.interpreter.specs.Demand.{Call, Session, written, Reports, is_enabled
 use Rattle.answer.specs.Refusal.{refused_or}
 use Rattle.interpreter.specs.Run.{number, run_issues, run_reached}
 use Rattle.interpreter.proofs.Calls.{runs-report}
-use Rattle.interpreter.specs.Types.{Machine, Choice, Chosen, NoneRunning}
+use Rattle.interpreter.specs.Types.{Machine}
 use Rattle.interpreter.proofs.Issuing.{chosen-thread, issued-sound, issued-well-formed, reached-nothing, reached-one-more}
 use Rattle.interpreter.proofs.RoundRobin.{distance, distance-range, distance-at, distance-of, some-counted, all-counted, IssueInTurn, InTurns, row-after, row-front, within, share, even}
 
 -- the thread chosen is at most as far from "last" as any that is running
-chosen-first : (m : Machine) (t d : ℕ) → m.last < 8 → choice m ≡ Chosen t d → (u : ℕ) → u < 8 → runs m u ≡ true
+chosen-first : (m : Machine) (t d : ℕ) → m.last < 8 → choice m ≡ some_chosen t d → (u : ℕ) → u < 8 → runs m u ≡ true
     → distance m.last t ≤ distance m.last u
 chosen-first m t d l h u b r = go ((chooses m t d).0 h) (dec_lt (distance m.last u) d)
   where
@@ -44,7 +45,7 @@ record Fit (mask : ℕ) (m : Machine) : Type 0 where
   mask-stays : m.enabled ≡ mask
   well-formed : well_formed m ≡ true
 
-module _ (mask : ℕ) (p : List ℕ) (s : State) (f : Fit mask s.machine) (t d : ℕ) (h : choice s.machine ≡ Chosen t d) where
+module _ (mask : ℕ) (p : List ℕ) (s : State) (f : Fit mask s.machine) (t d : ℕ) (h : choice s.machine ≡ some_chosen t d) where
   fit-issued : Fit mask (issued p s t).machine
   fit-issued = record { mask-stays = (issued-sound p s t).enabled ∙ f.mask-stays; well-formed = issued-well-formed p s t d h f.well-formed }
 
@@ -83,8 +84,8 @@ module _ (mask : ℕ) where
           → (Fit mask (if_chosen c (λ t. reached p b (issued p s t)) s).machine
           → InTurns (is_enabled mask) (if_chosen c (λ t. reached p b (issued p s t)) s).machine rest)
           → InTurns (is_enabled mask) s.machine (if_chosen c (λ t. record { before = s; thread = t } ∷ issues p b (issued p s t)) [] ++ rest)
-      go (Chosen t d) h more k = ((issued p s t).machine, turn mask p s f t d h, more t (fit-issued mask p s f t d h) k)
-      go NoneRunning h more k = k f
+      go (Some x) h more k = ((issued p s x.thread).machine, turn mask p s f x.thread x.distance h, more x.thread (fit-issued mask p s f x.thread x.distance h) k)
+      go None h more k = k f
 
   -- the issues of runs of which each has the record of the one before it
   runs-row : (rs : List Begun) (m : Machine) → Fit mask m → RecordHandedOn rs m → InTurns (is_enabled mask) m (issues_of rs)

@@ -15,20 +15,21 @@ use Rattle.machine.specs.State.{State, state, counted_in, recounted}
 use Rattle.machine.proofs.Claims.{chooses, issues as machine-issues, counts-kept, counts-unseen, counting, rounds-counted}
 use Rattle.machine.proofs.Kept.{running-entry}
 use Rattle.machine.specs.Claims.{KeepsRecord}
-use Rattle.machine.specs.Scheduler.{choice, with_last}
+use Rattle.std.specs.Prelude.{Some, None}
+use Rattle.machine.specs.Scheduler.{some_chosen, Choice, choice, with_last}
 use Rattle.machine.specs.WellFormed.{well_formed}
 use Rattle.interpreter.specs.Answer.{spent}
 use Rattle.interpreter.specs.Choosing.{if_chosen, performed, issued, issues, reached_by, reached, idle_ending, ending_at, entries_to, look, looks_for}
 use Rattle.interpreter.specs.Run.{accepted_run}
 use Rattle.interpreter.specs.Stretch.{Carried, Along, Awaits, Over, Stretched}
-use Rattle.interpreter.specs.Types.{Machine, Choice, Chosen, NoneRunning, Stretch}
+use Rattle.interpreter.specs.Types.{Machine, Stretch}
 
 -- the thread chosen is one of the eight
-pub chosen-thread : (m : Machine) (t d : ℕ) → choice m ≡ Chosen t d → t < 8
+pub chosen-thread : (m : Machine) (t d : ℕ) → choice m ≡ some_chosen t d → t < 8
 chosen-thread m t d h = let f = (chooses m t d).0 h in omega (arith, f.place)
 
 -- where no thread is running, none is chosen
-pub none-chosen : (c : Choice) (t d : ℕ) → c ≡ NoneRunning → c ≡ Chosen t d → ⊥
+pub none-chosen : (c : Choice) (t d : ℕ) → c ≡ None → c ≡ some_chosen t d → ⊥
 none-chosen c t d a b = let z : ◌≡◌ {A = ℕ} 0 1 = ap (λ (x : Choice). if_chosen x (λ t. 1) 0) (sym a ∙ b) in omega arith
 
 -- the counts after an issue of a thread
@@ -41,7 +42,7 @@ chosen-beside s turns h = counts-unseen.choices s.machine turns ∙ h
 
 -- and the call that performs its issue, on the record with which it is issued and told its count, makes the rules' issue of it
 pub issue-performed : (p : List ℕ) (s : State) (turns : List ℕ) (t d : ℕ) (m : Machine) → length p ≤ 16384 → length s.registers ≡ 8704
-    → length turns ≡ 8 → choice s.machine ≡ Chosen t d → m ≡ with_last s.machine t
+    → length turns ≡ 8 → choice s.machine ≡ some_chosen t d → m ≡ with_last s.machine t
     → recounted (issue p (state m s.registers s.memory) t (get_or turns t 0)) (raised turns t) ≡ issued p (recounted s turns) t
 unfolding issued
 issue-performed p s turns t d m words regs size h e =
@@ -75,7 +76,7 @@ issued-sound p s t =
     let from = state (with_last s.machine t) s.registers s.memory in
     counting.keeps (with_last s.machine t) (performed p s t).machine t (performs p from t (turns_at s.machine t))
 
-pub issued-well-formed : (p : List ℕ) (s : State) (t d : ℕ) → choice s.machine ≡ Chosen t d → well_formed s.machine ≡ true
+pub issued-well-formed : (p : List ℕ) (s : State) (t d : ℕ) → choice s.machine ≡ some_chosen t d → well_formed s.machine ≡ true
     → well_formed (issued p s t).machine ≡ true
 issued-well-formed p s t d h w =
     (issued-sound p s t).well-formed (machine-issues s.machine t (chosen-thread s.machine t d h) w) ((chooses s.machine t d).0 h).running
@@ -92,11 +93,11 @@ module _ (p : List ℕ) (s : State) where
     where
       go : (c : Choice) → reached_by p s (if_chosen c (λ t. record { before = s; thread = t } ∷ issues p b (issued p s t)) [])
           ≡ if_chosen c (λ t. reached_by p (issued p s t) (issues p b (issued p s t))) s
-      go (Chosen t d) = refl
-      go NoneRunning = refl
+      go (Some x) = refl
+      go None = refl
 
   -- where no thread is running, nothing is issued
-  module _ (h : choice s.machine ≡ NoneRunning) where
+  module _ (h : choice s.machine ≡ None) where
     pub reached-none : (b : ℕ) → reached p b s ≡ s
     reached-none zero = reached-nothing
     reached-none (suc b) = rw (reached-one-more b, h)
@@ -115,7 +116,7 @@ module _ (p : List ℕ) (s : State) where
     look_none = ap entries_to h
 
   -- else the thread chosen is, if anything is left of the budget
-  module _ (t d : ℕ) (h : choice s.machine ≡ Chosen t d) where
+  module _ (t d : ℕ) (h : choice s.machine ≡ some_chosen t d) where
     pub reached-step : (b : ℕ) → reached p (suc b) s ≡ reached p b (issued p s t)
     reached-step b = rw (reached-one-more b, h)
 
@@ -142,7 +143,7 @@ carried-start p b s =
 
 module _ (p : List ℕ) (b : ℕ) (first : State) (made looked : ℕ) (s : State) (k : Carried p b first made looked s) where
   -- one issue more
-  pub carried_step : (t d : ℕ) → choice s.machine ≡ Chosen t d → made < b → Carried p b first (made + 1) (looked + d) (issued p s t)
+  pub carried_step : (t d : ℕ) → choice s.machine ≡ some_chosen t d → made < b → Carried p b first (made + 1) (looked + d) (issued p s t)
   carried_step t d h l =
       let e : b - made ≡ suc (b - (made + 1)) = omega arith in
       let f : reached p (b - made) s ≡ reached p (b - (made + 1)) (issued p s t) = rw e (reached-step p s t d h (b - (made + 1))) in
@@ -174,7 +175,7 @@ carried-further p b first left looked s k l rest further t j m =
 pub carried-issue : (p : List ℕ) (b : ℕ) (first : State) (made looked : ℕ) (s : State) (turns : List ℕ)
     → Carried p b first made looked (recounted s turns)
     → (t d : ℕ) (m : Machine) (after : State) → length p ≤ 16384 → length s.registers ≡ 8704 → length turns ≡ 8
-    → choice s.machine ≡ Chosen t d → m ≡ with_last s.machine t → made < b
+    → choice s.machine ≡ some_chosen t d → m ≡ with_last s.machine t → made < b
     → after ≡ issue p (state m s.registers s.memory) t (get_or turns t 0) → Carried p b first (made + 1) (looked + d) (recounted after (raised turns t))
 carried-issue p b first made looked s turns k t d m after words regs size h e l i =
     rw (ap (λ (n : State). recounted n (raised turns t)) i ∙ issue-performed p s turns t d m words regs size h e)
@@ -194,7 +195,7 @@ round first passed last t d e place =
 
 module _ (p : List ℕ) (b : ℕ) (first : State) (m : Machine) (turns : List ℕ) (left passed last : ℕ) (registers memory : List ℕ)
     (words : length p ≤ 16384) (regs : length registers ≡ 8704) (size : length turns ≡ 8)
-    (there : last % 8 ≡ (m.last + passed) % 8) (t d : ℕ) (h : choice (with_last m last) ≡ Chosen t d) where
+    (there : last % 8 ≡ (m.last + passed) % 8) (t d : ℕ) (h : choice (with_last m last) ≡ some_chosen t d) where
   pub passed_on : t % 8 ≡ (m.last + (passed + d)) % 8
   passed_on = round m.last passed last t d there ((chooses (with_last m last) t d).0 h).place
 
@@ -215,7 +216,7 @@ module _ (p : List ℕ) (b : ℕ) (first : State) (m : Machine) (turns : List �
 -- the same of a stretch that is under way: one issue more that sets no status, and one that was chosen before
 module _ (p : List ℕ) (b : ℕ) (first : State) (m : Machine) (turns registers memory : List ℕ)
     (words : length p ≤ 16384) (regs : length registers ≡ 8704) (size : length turns ≡ 8) where
-  pub along-step : (left passed last t d : ℕ) → Along p b first m turns left passed last registers memory → choice (with_last m last) ≡ Chosen t d
+  pub along-step : (left passed last t d : ℕ) → Along p b first m turns left passed last registers memory → choice (with_last m last) ≡ some_chosen t d
       → 0 < left → (after stored : List ℕ)
       → state (with_last m t) after stored ≡ issue p (state (with_last m t) registers memory) t (many_more ((passed + d - 1) / 8) (get_or turns t 0))
       → Along p b first m turns (left - 1) (passed + d) t after stored
@@ -279,10 +280,10 @@ ends p b first left looked s k l running o looks e =
     rw (f, g, h, o.ending)
 
 -- no thread is running
-pub over-idle : (p : List ℕ) (left : ℕ) (s : State) → choice s.machine ≡ NoneRunning → Over p left s false
+pub over-idle : (p : List ℕ) (left : ℕ) (s : State) → choice s.machine ≡ None → Over p left s false
 over-idle p left s h = record { stays = reached-none p s h left; none = issues-none p s h left; ending = ending-none p s h }
 
 -- a thread is running, and nothing is left of the budget
-pub over-spent : (p : List ℕ) (left : ℕ) (s : State) (t d : ℕ) → choice s.machine ≡ Chosen t d → left ≡ 0 → Over p left s true
+pub over-spent : (p : List ℕ) (left : ℕ) (s : State) (t d : ℕ) → choice s.machine ≡ some_chosen t d → left ≡ 0 → Over p left s true
 unfolding issues
 over-spent p left s t d h e = record { stays = rw e (reached-nothing p s); none = rw e; ending = ending-some p s t d h }

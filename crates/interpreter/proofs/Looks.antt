@@ -1,14 +1,14 @@
 -- Laws of how many entries the chooser looks at.
-use Prim.Native.Nat.{ℕ, ◌+◌, ◌*◌, ◌≤◌}
+use Prim.Native.Nat.{◌+◌, ◌*◌, ◌≤◌}
 use mathlib.Core.List.{List, [], ◌∷◌, ◌++◌}
 use mathlib.Core.Path.{◌≡◌, refl}
 use native.Mathlib.Omega.{arith}
 use lib.ListN.{length}
 use Rattle.machine.proofs.Claims.{chooses}
-use Rattle.machine.specs.Scheduler.{choice}
+use Rattle.std.specs.Prelude.{Some, None}
+use Rattle.machine.specs.Scheduler.{Choice, choice}
 use Rattle.machine.specs.State.{State}
 use Rattle.interpreter.specs.Choosing.{Issue, entries_to, look, looks_for}
-use Rattle.interpreter.specs.Types.{Choice, Chosen, NoneRunning}
 
 -- 1 to 8 in a state
 pub look-bounds : (s : State) → (1 ≤ look s) × (look s ≤ 8)
@@ -16,8 +16,8 @@ unfolding look
 look-bounds s = go (choice s.machine) refl
   where
     go : (c : Choice) → choice s.machine ≡ c → (1 ≤ entries_to c) × (entries_to c ≤ 8)
-    go (Chosen t d) h = let f = (chooses s.machine t d).0 h in (f.low, f.high)
-    go NoneRunning h = (omega arith, omega arith)
+    go (Some x) h = let f = (chooses s.machine x.thread x.distance).0 h in (f.low, f.high)
+    go None h = (omega arith, omega arith)
 
 -- and for each issue
 pub looks-bounds : (is : List Issue) → (length is ≤ looks_for is) × (looks_for is ≤ 8 * length is)

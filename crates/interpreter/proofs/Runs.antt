@@ -10,7 +10,8 @@ use Rattle.answer.specs.Answer.{given, refused}
 use Rattle.execution.proofs.Claims.{lengths}
 use Rattle.machine.specs.Machine.{turns_at}
 use Rattle.machine.specs.State.{State, state}
-use Rattle.machine.specs.Scheduler.{choice, with_last, some_waits}
+use Rattle.std.specs.Prelude.{Some, None}
+use Rattle.machine.specs.Scheduler.{some_chosen, Choice, choice, with_last, some_waits}
 use Rattle.machine.specs.WellFormed.{well_formed}
 use Rattle.interpreter.specs.Answer.{stopped, stuck, spent}
 use Rattle.interpreter.specs.Choosing.{Issue, if_chosen, issued, issues, reached, idle_ending, ending_at, look, looks_for}
@@ -18,14 +19,14 @@ use Rattle.interpreter.specs.Claims.{StaysWellFormed, MaskStays, LengthsStay, Wi
 use Rattle.answer.specs.Refusal.{refused_or}
 use Rattle.interpreter.specs.Run.{number, run_issues, run_reached, run_answer, run_looks}
 use Rattle.interpreter.specs.Stretch.{Carried, Stretched}
-use Rattle.interpreter.specs.Types.{Choice, Chosen, NoneRunning, Stretch}
+use Rattle.interpreter.specs.Types.{Stretch}
 use Rattle.interpreter.proofs.Issuing.{issued-sound, issued-well-formed, reached-nothing, reached-one-more, reached-none, issues-none, ending-none}
 use Rattle.interpreter.proofs.Looks.{look-bounds, looks-bounds, looks-append}
 use Rattle.interpreter.proofs.Refusals.{run-taken, taken-run}
 
 -- what each issue of the thread chosen keeps, a run keeps
 Kept : (State → Type 0) → List ℕ → Type 0
-Kept P p = (s : State) (t d : ℕ) → choice s.machine ≡ Chosen t d → P s → P (issued p s t)
+Kept P p = (s : State) (t d : ℕ) → choice s.machine ≡ some_chosen t d → P s → P (issued p s t)
 
 module _ (P : State → Type 0) (p : List ℕ) (each : Kept P p) where
   reached-keeps : (b : ℕ) (s : State) → P s → P (reached p b s)
@@ -35,8 +36,8 @@ module _ (P : State → Type 0) (p : List ℕ) (each : Kept P p) where
     where
       go : (c : Choice) → choice s.machine ≡ c → ((t : ℕ) → P (issued p s t) → P (reached p b (issued p s t)))
           → P (if_chosen c (λ t. reached p b (issued p s t)) s)
-      go (Chosen t d) e more = more t (each s t d e h)
-      go NoneRunning e more = h
+      go (Some x) e more = more x.thread (each s x.thread x.distance e h)
+      go None e more = h
 
   run-keeps : (b : ℕ) (s : State) → P s → P (run_reached p b s)
   unfolding run_reached
@@ -93,8 +94,8 @@ module _ (p : List ℕ) where
     where
       go : (c : Choice) → ((t : ℕ) → length (issues p b (issued p s t)) ≤ b)
           → length (if_chosen c (λ t. record { before = s; thread = t } ∷ issues p b (issued p s t)) []) ≤ suc b
-      go (Chosen t d) more = let h = more t in omega arith
-      go NoneRunning more = omega arith
+      go (Some x) more = let h = more x.thread in omega arith
+      go None more = omega arith
 
   spent-whole : (b : ℕ) (s : State) → ending_at (reached p b s) ≡ spent → length (issues p b s) ≡ b
   unfolding issues
@@ -105,8 +106,8 @@ module _ (p : List ℕ) where
       go : (c : Choice) → choice s.machine ≡ c → ending_at (if_chosen c (λ t. reached p b (issued p s t)) s) ≡ spent
           → ((t : ℕ) → ending_at (reached p b (issued p s t)) ≡ spent → length (issues p b (issued p s t)) ≡ b)
           → length (if_chosen c (λ t. record { before = s; thread = t } ∷ issues p b (issued p s t)) []) ≡ suc b
-      go (Chosen t d) e k more = ap suc (more t k)
-      go NoneRunning e k more = absurd (idle-unspent s (sym (ending-none p s e) ∙ k))
+      go (Some x) e k more = ap suc (more x.thread k)
+      go None e k more = absurd (idle-unspent s (sym (ending-none p s e) ∙ k))
 
 pub within-budget : WithinBudget
 unfolding run_issues
@@ -149,8 +150,8 @@ module _ (p : List ℕ) (m : ℕ) where
     where
       go : (c : Choice) → choice s.machine ≡ c → ((t : ℕ) → reached p (n + m) (issued p s t) ≡ reached p m (reached p n (issued p s t)))
           → if_chosen c (λ t. reached p (n + m) (issued p s t)) s ≡ reached p m (if_chosen c (λ t. reached p n (issued p s t)) s)
-      go (Chosen t d) e more = more t
-      go NoneRunning e more = sym (reached-none p s e m)
+      go (Some x) e more = more x.thread
+      go None e more = sym (reached-none p s e m)
 
   issues-add : (n : ℕ) (s : State) → issues p (n + m) s ≡ issues p n s ++ issues p m (reached p n s)
   unfolding issues
@@ -163,8 +164,8 @@ module _ (p : List ℕ) (m : ℕ) where
           → ((t : ℕ) → issues p (n + m) (issued p s t) ≡ issues p n (issued p s t) ++ issues p m (reached p n (issued p s t)))
           → if_chosen c (λ t. record { before = s; thread = t } ∷ issues p (n + m) (issued p s t)) []
           ≡ if_chosen c (λ t. record { before = s; thread = t } ∷ issues p n (issued p s t)) [] ++ issues p m (if_chosen c (λ t. reached p n (issued p s t)) s)
-      go (Chosen t d) e more = ap {B = List Issue} (λ is. record { before = s; thread = t } ∷ is) (more t)
-      go NoneRunning e more = sym (issues-none p s e m)
+      go (Some x) e more = ap {B = List Issue} (λ is. record { before = s; thread = x.thread } ∷ is) (more x.thread)
+      go None e more = sym (issues-none p s e m)
 
   -- both look at the state between them
   looks-add : (n : ℕ) (s : State) → looks_for (issues p (n + m) s) ≡ looks_for (issues p n s) + looks_for (issues p m (reached p n s))

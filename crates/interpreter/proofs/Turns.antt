@@ -14,20 +14,20 @@ use Rattle.execution.proofs.Claims.{uncounted}
 use Rattle.machine.proofs.Claims.{chooses, counts-kept, counting}
 use Rattle.machine.proofs.Kept.{running-entry}
 use Rattle.machine.specs.Machine.{turns_at}
-use Rattle.machine.specs.Scheduler.{choice, with_last}
+use Rattle.std.specs.Prelude.{Some, None}
+use Rattle.machine.specs.Scheduler.{some_chosen, Choice, choice, with_last}
 use Rattle.machine.specs.State.{State, state}
 use Rattle.interpreter.specs.Choosing.{Issue, if_chosen, performed, issued, issues, reached}
 use Rattle.interpreter.specs.Claims.{TurnsCounted}
 use Rattle.interpreter.specs.Demand.{written, made}
 use Rattle.interpreter.specs.Run.{Outcome, number, run_issues, run_reached, run}
-use Rattle.interpreter.specs.Types.{Choice, Chosen, NoneRunning}
 use Rattle.interpreter.proofs.Issuing.{reached-nothing, reached-one-more}
 
 -- a count, and so many more
 abbrev more : ℕ → ℕ → ℕ
 more turns n = (turns + n) % 2 ^ 32
 
-module _ (p : List ℕ) (s : State) (t d : ℕ) (h : choice s.machine ≡ Chosen t d) where
+module _ (p : List ℕ) (s : State) (t d : ℕ) (h : choice s.machine ≡ some_chosen t d) where
   performed-counts : (u : ℕ) → turns_at (performed p s t).machine u ≡ turns_at s.machine u
   performed-counts u =
       let from = state (with_last s.machine t) s.registers s.memory in
@@ -69,8 +69,8 @@ module _ (p : List ℕ) (u : ℕ) where
           → turns_at (reached p b (issued p s t)).machine u ≡ more (turns_at (issued p s t).machine u) (made u (issues p b (issued p s t))))
           → turns_at (if_chosen c (λ t. reached p b (issued p s t)) s).machine u
           ≡ more (turns_at s.machine u) (made u (if_chosen c (λ t. record { before = s; thread = t } ∷ issues p b (issued p s t)) []))
-      go (Chosen t d) h rest = let e = issued-counts p s t d h u l in let f = rest t (omega arith) in omega arith
-      go NoneRunning h rest = omega arith
+      go (Some x) h rest = let e = issued-counts p s x.thread x.distance h u l in let f = rest x.thread (omega arith) in omega arith
+      go None h rest = omega arith
 
   run-counts : (b : ℕ) (s : State) → turns_at s.machine u < 2 ^ 32
       → turns_at (run_reached p b s).machine u ≡ more (turns_at s.machine u) (made u (run_issues p b s))

@@ -1,6 +1,9 @@
--- The cases of the code's answers, as values and numbers of document 01.
+-- How a run ends, and what a call answers, as values and numbers of document 01.
+use Rattle.std.specs.Prelude.{Result, Ok, Err}
 use Rattle.answer.specs.Answer.{Answer, given, refused}
-use Rattle.interpreter.specs.Types.{StartAnswer, Started, StartRefused, RunAnswer, Stopped, Stuck, Spent, RunRefused}
+use Rattle.answer.specs.declared.refusal.Refusal.{Refusal}
+use Rattle.answer.specs.Refusal.{row_of}
+use Rattle.interpreter.specs.Types.{Stop, Stopped, Stuck, Spent, Run}
 
 -- how a run that is not refused ends: "stuck if one waits, else stopped", or "spent"
 pub data Ending : Type 0 where
@@ -8,13 +11,12 @@ pub data Ending : Type 0 where
   stuck : Ending
   spent : Ending
 
-abbrev pub answered : RunAnswer → Answer Ending
-answered Stopped = given stopped
-answered Stuck = given stuck
-answered Spent = given spent
-answered (RunRefused number) = refused number
+-- the same as the code names it
+abbrev pub ending_of : Stop → Ending
+ending_of Stopped = stopped
+ending_of Stuck = stuck
+ending_of Spent = spent
 
--- that a start is not refused is all that its answer says: the record and the register file stand beside it
-abbrev pub start_answered : StartAnswer → Answer (Unit {0})
-start_answered Started = given tt
-start_answered (StartRefused number) = refused number
+abbrev pub answered : Result Run Refusal → Answer Ending
+answered (Ok r) = given (ending_of r.stop)
+answered (Err refusal) = refused (row_of refusal)

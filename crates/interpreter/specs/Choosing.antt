@@ -1,11 +1,11 @@
 -- The issues of a run, written down one after the other (document 01, "Choosing and counting issues").
-use Rattle.std.specs.Prelude.{ℕ, zero, suc, ◌+◌, cond, List, [], ◌∷◌}
+use Rattle.std.specs.Prelude.{ℕ, zero, suc, ◌+◌, cond, List, [], ◌∷◌, Some, None}
 use Rattle.execution.specs.Issue.{perform}
 use Rattle.machine.specs.Machine.{turns_at}
 use Rattle.machine.specs.State.{State, state, counted_in}
-use Rattle.machine.specs.Scheduler.{choice, with_last, some_waits}
+use Rattle.machine.specs.Scheduler.{Choice, choice, with_last, some_waits}
 use Rattle.interpreter.specs.Answer.{Ending, stopped, stuck, spent}
-use Rattle.interpreter.specs.Types.{Machine, Choice, Chosen, NoneRunning}
+use Rattle.interpreter.specs.Types.{Machine}
 
 -- "each is written as the state before it and the thread issued"
 pub record Issue : Type 0 where
@@ -22,8 +22,8 @@ issued p s t = counted_in (performed p s t) t
 
 -- by "the first running thread after "last"", if a thread is running
 abbrev pub if_chosen : {A : Type 0} → Choice → (ℕ → A) → A → A
-if_chosen (Chosen thread distance) f x = f thread
-if_chosen NoneRunning f x = x
+if_chosen (Some next) f x = f next.thread
+if_chosen None f x = x
 
 -- "Any other adds its issues in order, by the rules for choosing and for one issue, until those rules give an answer":
 -- the issues from a state, with so many left in the budget. "A trapping issue counts."
@@ -52,8 +52,8 @@ ending_at s = if_chosen (choice s.machine) (λ t. spent) (idle_ending s.machine)
 -- How far the chooser looks (02, T-13): "for an issue the distance from "last" round to the thread chosen, 1 to 8; for a search that
 -- finds none, 8". That a distance is 1 to 8, and no running thread nearer, machine's claims have as `Chooses`.
 abbrev pub entries_to : Choice → ℕ
-entries_to (Chosen thread distance) = distance
-entries_to NoneRunning = 8
+entries_to (Some next) = next.distance
+entries_to None = 8
 
 -- the entries looked at to choose in a state
 unfoldable pub look : State → ℕ

@@ -1,13 +1,14 @@
 -- What a run hands back and leaves (document 01, "Numbers given back" and "Choosing and counting issues").
-use Rattle.std.specs.Prelude.{ℕ, ◌+◌, List, [], length}
+use Rattle.std.specs.Prelude.{Result, Ok, Err, ℕ, ◌+◌, List, [], length}
 use Rattle.std.proofs.Math.Option.{Option}
 use Rattle.answer.specs.Answer.{Answer, given, refused}
 use Rattle.machine.specs.State.{State, state}
-use Rattle.interpreter.specs.Answer.{Ending, answered}
+use Rattle.interpreter.specs.Answer.{Ending, ending_of}
 use Rattle.interpreter.specs.Choosing.{Issue, issues, reached, ending_at, look, looks_for}
-use Rattle.answer.specs.Refusal.{refused_or}
+use Rattle.answer.specs.declared.refusal.Refusal.{Refusal}
+use Rattle.answer.specs.Refusal.{row_of, refused_or}
 use Rattle.interpreter.specs.Refusal.{run_number}
-use Rattle.interpreter.specs.Types.{Run}
+use Rattle.interpreter.specs.Types.{Machine, Run}
 
 -- the number that the table gives a run of a program from a state
 abbrev pub number : List ℕ → State → Option ℕ
@@ -39,9 +40,16 @@ pub record Outcome : Type 0 where
   pub looks : ℕ
   pub left : State
 
-abbrev pub outcome : Run → List ℕ → List ℕ → Outcome
-outcome r registers memory =
-    record { answer = answered r.answer; issues = r.issues; looks = r.looks; left = state r.machine registers memory }
+-- by the code's result: of a run that is not refused
+abbrev pub run_outcome : Run → List ℕ → List ℕ → Outcome
+run_outcome r registers memory =
+    record { answer = given (ending_of r.stop); issues = r.issues; looks = r.looks; left = state r.machine registers memory }
+
+-- and of a call with the record m, which the caller still has where it is refused
+abbrev pub outcome : Result Run Refusal → Machine → List ℕ → List ℕ → Outcome
+outcome (Ok r) m registers memory = run_outcome r registers memory
+outcome (Err refusal) m registers memory =
+    record { answer = refused (row_of refusal); issues = 0; looks = 0; left = state m registers memory }
 
 -- "The number a run reports is the number of issues it added, its answer is the one the rules for choosing give there, or the
 -- table's number, and the machine it hands back or leaves is the state reached."

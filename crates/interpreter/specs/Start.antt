@@ -1,13 +1,13 @@
 -- What a start makes (document 01, "What a machine holds").
-use Rattle.std.specs.Prelude.{ℕ, zero, suc, List, map, length}
+use Rattle.std.specs.Prelude.{Result, Ok, Err, ℕ, zero, suc, List, map, length}
 use Rattle.answer.specs.Answer.{Answer, given, refused}
 use Rattle.execution.specs.Registers.{with_scalar}
 use Rattle.machine.specs.Machine.{zeroed, start as start_record}
 use Rattle.machine.specs.State.{lane_mask_register}
-use Rattle.interpreter.specs.Answer.{start_answered}
-use Rattle.answer.specs.Refusal.{refused_or}
+use Rattle.answer.specs.declared.refusal.Refusal.{Refusal}
+use Rattle.answer.specs.Refusal.{row_of, refused_or}
 use Rattle.interpreter.specs.Refusal.{start_number}
-use Rattle.interpreter.specs.Types.{Machine, Start}
+use Rattle.interpreter.specs.Types.{Machine}
 
 -- "zeroes the register file"
 abbrev pub zeroes : List ℕ → List ℕ
@@ -24,8 +24,10 @@ pub record Beginning : Type 0 where
   pub machine : Machine
   pub registers : List ℕ
 
-abbrev pub started : Start → List ℕ → Beginning
-started r regs = record { answer = start_answered r.answer; machine = r.machine; registers = regs }
+-- by the code's result, which has no record for a refusal: C is then handed one with every number 0
+abbrev pub started : Result Machine Refusal → List ℕ → Beginning
+started (Ok machine) regs = record { answer = given tt; machine = machine; registers = regs }
+started (Err refusal) regs = record { answer = refused (row_of refusal); machine = zeroed; registers = regs }
 
 -- "Start takes an enabled mask, zeroes the register file, sets every s59 to 0xFFFF, makes enabled threads running and last 7."
 -- "A refusal changes no lent buffer .. start and image reading, which get none, hand back a record with every number 0."

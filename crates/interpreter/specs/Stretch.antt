@@ -2,11 +2,11 @@
 use Rattle.std.specs.Prelude.{ℕ, ◌+◌, ◌-◌, ◌*◌, ◌%◌, ◌<◌, ◌≤◌, Bool, true, false, cond, List, [], ◌≡◌, length}
 use Rattle.answer.specs.Refusal.{program_words, register_words}
 use Rattle.machine.specs.Rounds.{after_rounds}
-use Rattle.machine.specs.Scheduler.{choice, with_last}
+use Rattle.machine.specs.Scheduler.{some_chosen, choice, with_last}
 use Rattle.machine.specs.State.{State, state, recounted}
 use Rattle.interpreter.specs.Answer.{spent}
 use Rattle.interpreter.specs.Choosing.{issues, reached, idle_ending, ending_at, look, looks_for}
-use Rattle.interpreter.specs.Types.{Machine, Chosen, FastIssues, Stretch}
+use Rattle.interpreter.specs.Types.{Machine, FastIssues, Stretch}
 
 -- a run from `first` with the budget b has come to s, with so many issues made, and so many entries looked at for them
 pub record Carried (p : List ℕ) (b : ℕ) (first : State) (made looked : ℕ) (s : State) : Type 0 where
@@ -27,14 +27,14 @@ pub record Awaits (p : List ℕ) (b : ℕ) (first : State) (m : Machine) (turns 
   pub until : ℕ
   pub distance : ℕ
   pub along : Along p b first m turns (left + 1) until before registers memory
-  pub chosen : choice (with_last m before) ≡ Chosen t distance
+  pub chosen : choice (with_last m before) ≡ some_chosen t distance
   pub sum : passed ≡ until + distance
 
 -- the same before such a choice, of the thread t at the distance d
 pub record Chooses (p : List ℕ) (b : ℕ) (first : State) (m : Machine) (turns : List ℕ) (left passed t d : ℕ) (registers memory : List ℕ) : Type 0 where
   pub before : ℕ
   pub along : Along p b first m turns left passed before registers memory
-  pub chosen : choice (with_last m before) ≡ Chosen t d
+  pub chosen : choice (with_last m before) ≡ some_chosen t d
 
 -- where issues of the fast path have come to, by whether the last is deferred
 abbrev pub StandsAt : List ℕ → ℕ → State → Machine → List ℕ → FastIssues → List ℕ → List ℕ → Bool → Type 0
@@ -46,7 +46,7 @@ abbrev pub Goes : List ℕ → ℕ → ℕ → Bool → ℕ → ℕ → List ℕ
     → ((b : ℕ) → State → Machine → List ℕ → Type 0) → Type 0
 Goes p t d others left passed registers memory There =
     (b : ℕ) (first : State) (m : Machine) (turns : List ℕ) (last : ℕ) → length p ≤ program_words → length registers ≡ register_words → length turns ≡ 8
-    → (others ≡ false → last ≡ t) → choice (with_last m last) ≡ Chosen t d → Along p b first m turns left passed last registers memory
+    → (others ≡ false → last ≡ t) → choice (with_last m last) ≡ some_chosen t d → Along p b first m turns left passed last registers memory
     → There b first m turns
 
 pub record Repeats (p : List ℕ) (t d : ℕ) (others : Bool) (left passed : ℕ) (registers memory : List ℕ) (r : FastIssues) (after stored : List ℕ) : Type 0 where
@@ -59,7 +59,7 @@ pub record Repeats (p : List ℕ) (t d : ℕ) (others : Bool) (left passed : ℕ
 abbrev pub CameTo : List ℕ → ℕ → State → Machine → List ℕ → FastIssues → List ℕ → List ℕ → Bool → Type 0
 CameTo p b first m turns r after stored true = StandsAt p b first m turns r after stored true
 CameTo p b first m turns r after stored false =
-    StandsAt p b first m turns r after stored false × ((t d : ℕ) → choice (with_last m r.last) ≡ Chosen t d → r.left ≡ 0)
+    StandsAt p b first m turns r after stored false × ((t d : ℕ) → choice (with_last m r.last) ≡ some_chosen t d → r.left ≡ 0)
 
 abbrev pub Continues : List ℕ → Machine → ℕ → ℕ → ℕ → List ℕ → List ℕ → FastIssues → List ℕ → List ℕ → Type 0
 Continues p m left passed last registers memory r after stored =

@@ -6,6 +6,6 @@ mod outcome;
 mod running;
 mod starting;
 
-pub use outcome::{Run, RunAnswer, Start, StartAnswer};
+pub use outcome::{Run, Stop};
 pub use running::run;
 pub use starting::start;

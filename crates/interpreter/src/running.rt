@@ -1,63 +1,56 @@
 // A program is run.
 ghost use Rattle.std.specs.Prelude.{◌+◌, ◌*◌, ◌^◌, ◌≤◌, ◌<◌, cond, ◌≡◌, length};
-ghost use Rattle.answer.specs.Answer.{given};
 ghost use Rattle.answer.specs.Refusal.{number_of, program_words, register_words};
 ghost use Rattle.machine.specs.Rounds.{after_rounds};
 ghost use Rattle.machine.specs.State.{state, recounted};
-ghost use Rattle.interpreter.specs.Answer.{stopped, stuck, spent, answered};
+ghost use Rattle.interpreter.specs.Answer.{spent, ending_of};
 ghost use Rattle.interpreter.specs.Choosing.{idle_ending};
 ghost use Rattle.interpreter.specs.Refusal.{record_number, run_number};
-ghost use Rattle.interpreter.specs.Run.{outcome, accepted_run, run};
+ghost use Rattle.interpreter.specs.Run.{run_outcome, outcome, accepted_run, run};
 ghost use Rattle.interpreter.specs.Stretch.{Repeats, Continues, Stretched};
 
-use crate::outcome::{Run, RunAnswer};
-use answer::{Verdict, first_refusal, lengths_verdict};
-use machine::{Choice, Machine};
+use crate::outcome::{Run, Stop};
+use answer::{Refusal, lengths_verdict};
+use machine::Machine;
 use run_record::{some_waits, with_last};
 use thread_entry::many_more;
 use turn_counts::{count_rounds, with_turns};
 use well_formedness::well_formed;
 
-// The number that a machine record is refused with, if any.
-fn record_verdict(machine: Machine) -> Verdict
+// Refuses a machine record that is not well formed.
+#[tactic(auto, unfolding(crate::specs::Refusal::record_number, answer::specs::Refusal::first_that_applies))]
+fn record_verdict(machine: Machine) -> Result<(), Refusal>
     ensures { number_of result ≡ record_number machine }
 {
-    let fine = well_formed(machine);
-    if fine {
-        return Verdict::Accepted;
+    if well_formed(machine) {
+        Ok(())
+    } else {
+        Err(Refusal::Record)
     }
-    Verdict::Refused(4)
 }
 
-// The number that a run is refused with, if any: of the words of its program and register file, the bytes of its memory, and its record.
-fn run_verdict(words: usize, regs: usize, bytes: usize, machine: Machine) -> Verdict
+// Refuses a run: the words of its program and register file, the bytes of its memory, or its record.
+fn run_verdict(words: usize, regs: usize, bytes: usize, machine: Machine) -> Result<(), Refusal>
     ensures { number_of result ≡ run_number words regs bytes machine }
 {
-    let lengths = lengths_verdict(words, regs, bytes);
-    let content = record_verdict(machine);
-    first_refusal(lengths, content)
+    lengths_verdict(words, regs, bytes)?;
+    record_verdict(machine)
 }
 
-// What a run answers where nothing more is issued: whether a thread is running, and whether one waits.
-fn answer_of(running: bool, waits: bool) -> RunAnswer
-    ensures { answered result ≡ given (cond running spent (cond waits stuck stopped)) }
-{
-    if running {
-        return RunAnswer::Spent;
-    }
-    if waits {
-        return RunAnswer::Stuck;
-    }
-    RunAnswer::Stopped
-}
-
-// What it hands back there.
+// What a run hands back where nothing more is issued: whether a thread is running, and whether one waits, say how it ended.
+#[tactic(auto, unfolding(crate::specs::Choosing::idle_ending))]
 fn ended(machine: Machine, running: bool, made: u32, looks: u64) -> Run
-    ensures { (answered result.answer ≡ given (cond running spent (idle_ending machine))) × (result.issues ≡ made) × (result.looks ≡ looks) × (result.machine ≡ machine) }
+    ensures { (ending_of result.stop ≡ cond running spent (idle_ending machine)) × (result.issues ≡ made) × (result.looks ≡ looks) × (result.machine ≡ machine) }
 {
-    let waits = some_waits(machine);
+    let stop = if running {
+        Stop::Spent
+    } else if some_waits(machine) {
+        Stop::Stuck
+    } else {
+        Stop::Stopped
+    };
     Run {
-        answer: answer_of(running, waits),
+        stop,
         issues: made,
         looks,
         machine,
@@ -93,8 +86,7 @@ fn make_thread_issues(
     loop {
         passed += distance as u64;
         left -= 1;
-        let done = fast_path::try_word(program, registers, memory, thread);
-        if !done {
+        if !fast_path::try_word(program, registers, memory, thread) {
             return FastIssues {
                 last: thread,
                 left,
@@ -140,26 +132,19 @@ fn make_fast_issues(
         if fast.deferred | (fast.left == 0) {
             return fast;
         }
-        let at = with_last(machine, fast.last as u8);
-        let turn = at.choose();
-        let choice = turn.choice;
-        match choice {
-            Choice::NoneRunning => {
-                return fast;
-            }
-            Choice::Chosen { thread, distance } => {
-                fast = make_thread_issues(
-                    program,
-                    registers,
-                    memory,
-                    thread,
-                    distance,
-                    thread != fast.last,
-                    fast.left,
-                    fast.passed,
-                );
-            }
-        }
+        let Some(next) = with_last(machine, fast.last as u8).choose().choice else {
+            return fast;
+        };
+        fast = make_thread_issues(
+            program,
+            registers,
+            memory,
+            next.thread,
+            next.distance,
+            next.thread != fast.last,
+            fast.left,
+            fast.passed,
+        );
     }
 }
 
@@ -197,16 +182,13 @@ fn make_stretch(
     let mut last = (machine.last % 8) as usize;
     loop {
         let fast = make_fast_issues(program, registers, memory, machine, last, left, passed);
-        let deferred = fast.deferred;
         left = fast.left;
         last = fast.last;
         passed = fast.passed;
         let at = with_last(machine, last as u8);
-        if !deferred {
-            let turn = at.choose();
-            let choice = turn.choice;
-            return match choice {
-                Choice::NoneRunning => Stretch {
+        if !fast.deferred {
+            return match at.choose().choice {
+                None => Stretch {
                     machine: at,
                     left,
                     passed,
@@ -214,14 +196,11 @@ fn make_stretch(
                     changed: false,
                     running: false,
                 },
-                Choice::Chosen {
-                    thread: _,
-                    distance,
-                } => Stretch {
+                Some(next) => Stretch {
                     machine: at,
                     left,
                     passed,
-                    looks: passed + distance as u64,
+                    looks: passed + next.distance as u64,
                     changed: false,
                     running: true,
                 },
@@ -230,15 +209,13 @@ fn make_stretch(
         let rounds = (passed - 1) / 8;
         let had = many_more(turns[last], rounds);
         let issued = execution::issue(program, registers, memory, at, last, had);
-        let after = issued.machine;
-        let changed = issued.changed;
-        if changed {
+        if issued.changed {
             return Stretch {
-                machine: after,
+                machine: issued.machine,
                 left,
                 passed,
                 looks: passed,
-                changed,
+                changed: true,
                 running: true,
             };
         }
@@ -254,7 +231,7 @@ fn make_issues(
     budget: u32,
 ) -> Run
     requires { (length program.now ≤ program_words) × (length registers.old ≡ register_words) × (machine.last < 8) }
-    ensures { outcome result registers.new memory.new ≡ accepted_run program.now budget (state machine registers.old memory.old) }
+    ensures { run_outcome result registers.new memory.new ≡ accepted_run program.now budget (state machine registers.old memory.old) }
 {
     let mut left = budget;
     let mut looks: u64 = 0;
@@ -263,13 +240,13 @@ fn make_issues(
         // lent as a copy, so that the compiler need not keep the counts themselves in memory
         let counted = turns;
         let stretch = make_stretch(program, registers, memory, machine, &counted, left);
-        let changed = stretch.changed;
+        // by a local: the check covers no call whose result is laid in an array that is lent
         let rounds = count_rounds(machine, turns, stretch.passed);
         turns = rounds;
         machine = stretch.machine;
         left = stretch.left;
         looks += stretch.looks;
-        if !changed {
+        if !stretch.changed {
             return ended(
                 with_turns(machine, turns),
                 stretch.running,
@@ -280,24 +257,16 @@ fn make_issues(
     }
 }
 
-// A program is run until it stops, is stuck, or has spent its budget of issues.
+// A program is run until it stops, is stuck, or has spent its budget of issues. A refusal changes nothing.
 pub fn run(
     program: &[u32],
     registers: &mut [u32],
     memory: &mut [u8],
     machine: Machine,
     budget: u32,
-) -> Run
-    ensures { outcome result registers.new memory.new ≡ run program.now budget (state machine registers.old memory.old) }
+) -> Result<Run, Refusal>
+    ensures { outcome result machine registers.new memory.new ≡ run program.now budget (state machine registers.old memory.old) }
 {
-    let verdict = run_verdict(program.len(), registers.len(), memory.len(), machine);
-    match verdict {
-        Verdict::Refused(number) => Run {
-            answer: RunAnswer::Refused(number),
-            issues: 0,
-            looks: 0,
-            machine,
-        },
-        Verdict::Accepted => make_issues(program, registers, memory, machine, budget),
-    }
+    run_verdict(program.len(), registers.len(), memory.len(), machine)?;
+    Ok(make_issues(program, registers, memory, machine, budget))
 }

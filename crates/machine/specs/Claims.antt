@@ -1,13 +1,13 @@
 -- What is proved of the definitions, for other crates to cite.
-use Rattle.std.specs.Prelude.{ℕ, ◌+◌, ◌-◌, ◌/◌, ◌%◌, ◌<◌, ◌≤◌, true, false, List, ◌↔◌, ◌≡◌, length, get_or, set, Option, None}
+use Rattle.std.specs.Prelude.{ℕ, ◌+◌, ◌-◌, ◌/◌, ◌%◌, ◌<◌, ◌≤◌, true, false, List, ◌↔◌, ◌≡◌, length, get_or, set, None}
 use Rattle.bits.specs.Bit.{bit}
 use Rattle.machine.specs.Barrier.{reach_barrier}
 use Rattle.thread_entry.specs.Entry.{one_more_turn, many_more}
 use Rattle.machine.specs.Machine.{status_at, with_status_at, counted, turns_at, turns_of, with_turns, trap, end, start}
 use Rattle.machine.specs.Rounds.{after_rounds}
-use Rattle.machine.specs.Scheduler.{runs, after, choice, with_last, some_chosen, after_choice, choose, some_waits}
+use Rattle.machine.specs.Scheduler.{Choice, runs, after, choice, with_last, some_chosen, after_choice, choose, some_waits}
 use Rattle.thread_entry.specs.Status.{limits}
-use Rattle.machine.specs.Types.{Limits, Status, Idle, Trapped, Waiting, Machine, Chosen, Turn}
+use Rattle.machine.specs.Types.{Limits, Status, Idle, Trapped, Waiting, Machine, Turn}
 use Rattle.machine.specs.WellFormed.{waiting, well_formed_within, well_formed}
 
 -- Well-formedness.
@@ -63,7 +63,7 @@ ChoosesNone = (m : Machine) → (choice m ≡ None) ↔ ((t : ℕ) → t < 8 →
 
 -- what a caller learns of a turn r: the choice is the rules', and the record the one with which its thread is issued
 abbrev pub Turned : Type 0
-Turned = (m : Machine) (r : Turn) → r ≡ choose m → (c : Option Chosen) → r.choice ≡ c → (choice m ≡ c) × (r.machine ≡ after_choice m c)
+Turned = (m : Machine) (r : Turn) → r ≡ choose m → (c : Choice) → r.choice ≡ c → (choice m ≡ c) × (r.machine ≡ after_choice m c)
 
 -- a record stays well formed whichever thread is "last"
 abbrev pub Issued : Type 0

@@ -15,17 +15,21 @@ after m distance = (m.last + distance) % 8
 abbrev pub distances : List ℕ
 distances = 1 ∷ 2 ∷ 3 ∷ 4 ∷ 5 ∷ 6 ∷ 7 ∷ 8 ∷ []
 
--- a thread chosen, at its distance
-abbrev pub some_chosen : ℕ → ℕ → Option Chosen
+-- the thread chosen, if any
+abbrev pub Choice : Type 0
+Choice = Option Chosen
+
+-- one at its distance
+abbrev pub some_chosen : ℕ → ℕ → Choice
 some_chosen t d = Some (record { thread = t; distance = d })
 
 -- the thread chosen at a distance, if at any
-abbrev pub chosen_at : Machine → Option ℕ → Option Chosen
+abbrev pub chosen_at : Machine → Option ℕ → Choice
 chosen_at m None = None
 chosen_at m (Some distance) = some_chosen (after m distance) distance
 
 -- "the first running thread after "last", going round upwards from 7 to 0"
-unfoldable pub choice : Machine → Option Chosen
+unfoldable pub choice : Machine → Choice
 choice m = chosen_at m (first (λ distance. runs m (after m distance)) distances)
 
 -- the thread "becomes "last""
@@ -33,7 +37,7 @@ abbrev pub with_last : Machine → ℕ → Machine
 with_last m t = record { enabled = m.enabled; last = t; threads = m.threads }
 
 -- the record with which the thread chosen is issued
-abbrev pub after_choice : Machine → Option Chosen → Machine
+abbrev pub after_choice : Machine → Choice → Machine
 after_choice m (Some next) = with_last m next.thread
 after_choice m None = m
 

@@ -1,19 +1,18 @@
 -- `running::make_fast_issues` meets its contract: as long as the last issue was made, the next thread is chosen and issued.
-use Prim.Native.Nat.{ℕ, ◌+◌, ◌*◌, ◌<◌, ◌≤◌}
+use Prim.Native.Nat.{ℕ, ◌≤◌}
 use mathlib.Core.Bool.{Bool, true, false, ◌||◌, cond}
 use mathlib.Core.List.{List}
 use mathlib.Core.Path.{◌≡◌, refl, sym, ◌∙◌}
 use native.Mathlib.Omega.{arith}
-use borrow.Author.Rules.{rules}
 use borrow.Author.Tests.{eqb-true, eqb-false, not-false}
 use lib.Dec.{eqb}
-use lib.ListN.{length}
-use Rattle.machine.specs.Scheduler.{choice, with_last}
+use Rattle.std.specs.Prelude.{Some, None}
+use Rattle.machine.specs.Scheduler.{with_last}
 use Rattle.machine.specs.State.{State}
 use Rattle.machine.proofs.Claims.{chooses, turned}
 use Rattle.machine.proofs.Tests.{neither}
-use Rattle.interpreter.specs.Stretch.{Along, StandsAt, CameTo}
-use Rattle.interpreter.specs.Types.{Machine, FastIssues, Chosen, NoneRunning}
+use Rattle.interpreter.specs.Stretch.{StandsAt, CameTo}
+use Rattle.interpreter.specs.Types.{Machine, FastIssues}
 use Rattle.interpreter.proofs.Issuing.{chosen-thread, none-chosen}
 use Rattle.interpreter.proofs.running.make_fast_issues.Goals as goal
 
@@ -35,12 +34,12 @@ returns-then-fast c =
     )
 
 -- no thread is running
-pub returns-in-NoneRunning : goal.returns-in-NoneRunning
-returns-in-NoneRunning c =
+pub returns-in_default : goal.returns-in_default
+returns-in_default c =
     let l = c.loop-fast in
     let m = c.args.machine in
-    let turn = c.choose-turn in
-    let none = turned (with_last m l.fast.last) turn.result (rw (← c.with_last-at.ensures) turn.ensures) NoneRunning c.in-NoneRunning.is in
+    let turn = c.choose in
+    let none = turned (with_last m l.fast.last) turn.result (rw (← c.with_last.ensures) turn.ensures) None c.in_default.is in
     let on = neither l.fast.deferred (eqb l.fast.left 0) c.if-fast.false in (
       l.invariant.0,
       l.invariant.3,
@@ -54,8 +53,8 @@ pub make_thread_issues-fast-requires : goal.make_thread_issues-fast-requires
 make_thread_issues-fast-requires c =
     let l = c.loop-fast in
     let on = neither l.fast.deferred (eqb l.fast.left 0) c.if-fast.false in
-    let f = (chooses _ _ _).0 (turned (with_last c.args.machine c.loop-fast.fast.last) c.choose-turn.result (rw (← c.with_last-at.ensures) c.choose-turn.ensures)
-    (Chosen c.in-Chosen.thread c.in-Chosen.distance) c.in-Chosen.is).0 in
+    let f = (chooses _ _ _).0 (turned (with_last c.args.machine c.loop-fast.fast.last) c.choose.result (rw (← c.with_last.ensures) c.choose.ensures)
+    (Some c.in-Some.next) c.in-Some.is).0 in
     (omega (arith, eqb-false l.fast.left 0 on.1), f.high, omega (arith, l.invariant.4, c.requires.3))
 
 one : (x : Bool) → cond x 1 0 ≤ 1
@@ -66,8 +65,8 @@ pub loop-fast-preserved : goal.loop-fast-preserved
 loop-fast-preserved c =
     let l = c.loop-fast in
     let r = c.make_thread_issues-fast in
-    let h = (turned (with_last c.args.machine c.loop-fast.fast.last) c.choose-turn.result (rw (← c.with_last-at.ensures) c.choose-turn.ensures)
-    (Chosen c.in-Chosen.thread c.in-Chosen.distance) c.in-Chosen.is).0 in
+    let h = (turned (with_last c.args.machine c.loop-fast.fast.last) c.choose.result (rw (← c.with_last.ensures) c.choose.ensures)
+    (Some c.in-Some.next) c.in-Some.is).0 in
     let on = neither l.fast.deferred (eqb l.fast.left 0) c.if-fast.false in
     let t = chosen-thread _ _ _ h in (
       rw r.ensures.last t,
@@ -89,11 +88,11 @@ shape_of-memory-then-fast c = c.loop-fast.invariant.2
 pub overflow_cast-fast : goal.overflow_cast-fast
 overflow_cast-fast c = omega (arith, c.loop-fast.invariant.0)
 
-pub shape_of-registers-in-NoneRunning : goal.shape_of-registers-in-NoneRunning
-shape_of-registers-in-NoneRunning c = c.loop-fast.invariant.1
+pub shape_of-registers-in_default : goal.shape_of-registers-in_default
+shape_of-registers-in_default c = c.loop-fast.invariant.1
 
-pub shape_of-memory-in-NoneRunning : goal.shape_of-memory-in-NoneRunning
-shape_of-memory-in-NoneRunning c = c.loop-fast.invariant.2
+pub shape_of-memory-in_default : goal.shape_of-memory-in_default
+shape_of-memory-in_default c = c.loop-fast.invariant.2
 
 pub loop-fast-smaller : goal.loop-fast-smaller
 loop-fast-smaller c = c.make_thread_issues-fast.ensures.fewer

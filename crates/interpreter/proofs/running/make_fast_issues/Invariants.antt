@@ -1,20 +1,11 @@
 -- `running::make_fast_issues` meets its contract: as long as the last issue was made, the next thread is chosen and issued.
 use Prim.Native.Nat.{ℕ, ◌+◌, ◌*◌, ◌<◌, ◌≤◌}
-use mathlib.Core.Bool.{Bool, true, false, ◌||◌, cond}
+use mathlib.Core.Bool.{cond}
 use mathlib.Core.List.{List}
-use mathlib.Core.Path.{◌≡◌, refl, sym, ◌∙◌}
-use native.Mathlib.Omega.{arith}
-use borrow.Author.Rules.{rules}
-use borrow.Author.Tests.{eqb-true, eqb-false, not-false}
-use lib.Dec.{eqb}
+use mathlib.Core.Path.{◌≡◌}
 use lib.ListN.{length}
-use Rattle.machine.specs.Scheduler.{choice, with_last}
 use Rattle.machine.specs.State.{State}
-use Rattle.machine.proofs.Claims.{chooses, turned}
-use Rattle.machine.proofs.Tests.{neither}
-use Rattle.interpreter.specs.Stretch.{Along, StandsAt, CameTo}
-use Rattle.interpreter.specs.Types.{Machine, FastIssues, Chosen, NoneRunning}
-use Rattle.interpreter.proofs.Issuing.{chosen-thread, none-chosen}
+use Rattle.interpreter.specs.Stretch.{Along, StandsAt}
 use Rattle.interpreter.proofs.running.make_fast_issues.Given as goal
 
 abbrev pub invariant-loop-fast : goal.invariant-loop-fast

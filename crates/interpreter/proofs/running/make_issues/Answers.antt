@@ -1,14 +1,13 @@
 -- `running::make_issues` meets its contract: the issues made so far and those that the rules make from there are those of the run.
-use Prim.Native.Nat.{◌-◌, ◌<◌, ◌≤◌}
+use Prim.Native.Nat.{◌-◌}
 use mathlib.Core.Path.{◌≡◌, refl, ap, ◌∙◌}
 use native.Mathlib.Omega.{arith}
-use borrow.Author.Rules.{rules}
 use borrow.Author.Tests.{not-true, not-false}
 use lib.ListN.{length}
+use Rattle.answer.specs.Answer.{given}
 use Rattle.machine.specs.Machine.{with_turns}
 use Rattle.machine.specs.State.{state, recounted}
 use Rattle.machine.proofs.Claims.{counts-kept, rounds-counted}
-use Rattle.interpreter.specs.Stretch.{Carried}
 use Rattle.interpreter.proofs.Issuing.{carried-start, carried-further, goes_on, looks-over, ends}
 use Rattle.interpreter.proofs.Runs.{carried-within, stretched-within}
 use Rattle.interpreter.proofs.running.make_issues.Goals as goal
@@ -32,39 +31,39 @@ overflow_add-looks c =
     omega (arith, c.ranges.budget, l.invariant.0, carried-within _ _ _ _ _ _ l.invariant.4, stretched-within _ _ _ m.result _ m.ensures.0)
 
 -- nothing more is issued
-pub returns-then-not-changed : goal.returns-then-not-changed
-returns-then-not-changed c =
+pub returns-then-not-stretch : goal.returns-then-not-stretch
+returns-then-not-stretch c =
     let put = c.with_turns.ensures in
     let rounds = c.count_rounds-rounds.ensures in
     let m = c.make_stretch-stretch in
     let l = c.loop-machine in
-    let stays = c.if-not-changed.true in
+    let stays = not-true _ c.if-not-stretch.true in
     let e = c.ended.ensures in
     let further = carried-further _ _ _ l.left l.looks (recounted (state l.machine l.registers l.memory) l.turns) l.invariant.4 l.invariant.0
     m.result.left m.result.passed _ m.ensures.0.carried m.ensures.0.within in
-    (λ i. record { answer = e.0 i; issues = e.1 i; looks = e.2 i; left = state (e.3 i) m.new.registers m.new.memory })
+    (λ i. record { answer = given (e.0 i); issues = e.1 i; looks = e.2 i; left = state (e.3 i) m.new.registers m.new.memory })
     ∙ rw (put, rounds)
     (ends _ _ _ m.result.left _ _ further (omega (arith, l.invariant.0, m.ensures.0.within)) m.result.running (m.ensures.0.over stays) _
     (omega (arith, looks-over _ _ _ m.result _ m.ensures.0 stays)))
 
 -- both lent buffers keep their lengths
-pub shape_of-registers-then-not-changed : goal.shape_of-registers-then-not-changed
-shape_of-registers-then-not-changed c = c.make_stretch-stretch.auto.registers ∙ c.loop-machine.invariant.1
+pub shape_of-registers-then-not-stretch : goal.shape_of-registers-then-not-stretch
+shape_of-registers-then-not-stretch c = c.make_stretch-stretch.auto.registers ∙ c.loop-machine.invariant.1
 
-pub shape_of-memory-then-not-changed : goal.shape_of-memory-then-not-changed
-shape_of-memory-then-not-changed c = c.make_stretch-stretch.auto.memory ∙ c.loop-machine.invariant.2
+pub shape_of-memory-then-not-stretch : goal.shape_of-memory-then-not-stretch
+shape_of-memory-then-not-stretch c = c.make_stretch-stretch.auto.memory ∙ c.loop-machine.invariant.2
 
 pub loop-machine-smaller : goal.loop-machine-smaller
 loop-machine-smaller c =
     let m = c.make_stretch-stretch in
-    m.ensures.0.some-made (c.if-not-changed.false)
+    m.ensures.0.some-made (not-false _ c.if-not-stretch.false)
 
 pub loop-machine-preserved : goal.loop-machine-preserved
 loop-machine-preserved c =
     let rounds = c.count_rounds-rounds.ensures in
     let m = c.make_stretch-stretch in
     let l = c.loop-machine in
-    let changed = c.if-not-changed.false in
+    let changed = not-false _ c.if-not-stretch.false in
     let further = carried-further _ _ _ l.left l.looks (recounted (state l.machine l.registers l.memory) l.turns) l.invariant.4 l.invariant.0
     m.result.left m.result.passed _ m.ensures.0.carried m.ensures.0.within in (
       omega (arith, l.invariant.0, m.ensures.0.within),

@@ -1,16 +1,9 @@
 -- `running::make_issues` meets its contract: the issues made so far and those that the rules make from there are those of the run.
 use Prim.Native.Nat.{◌-◌, ◌<◌, ◌≤◌}
-use mathlib.Core.Path.{◌≡◌, refl, ap, ◌∙◌}
-use native.Mathlib.Omega.{arith}
-use borrow.Author.Rules.{rules}
-use borrow.Author.Tests.{not-true, not-false}
+use mathlib.Core.Path.{◌≡◌}
 use lib.ListN.{length}
-use Rattle.machine.specs.Machine.{with_turns}
 use Rattle.machine.specs.State.{state, recounted}
-use Rattle.machine.proofs.Claims.{counts-kept, rounds-counted}
 use Rattle.interpreter.specs.Stretch.{Carried}
-use Rattle.interpreter.proofs.Issuing.{carried-start, carried-further, goes_on, looks-over, ends}
-use Rattle.interpreter.proofs.Runs.{carried-within, stretched-within}
 use Rattle.interpreter.proofs.running.make_issues.Given as goal
 
 abbrev pub invariant-loop-machine : goal.invariant-loop-machine

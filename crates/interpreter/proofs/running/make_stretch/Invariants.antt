@@ -1,21 +1,10 @@
 -- `running::make_stretch` meets its contract: the fast path makes issues up to one that the slow path makes, until a status is set or
 -- nothing more is issued.
-use Prim.Native.Nat.{◌+◌, ◌-◌, ◌%◌, ◌<◌}
-use mathlib.Core.Path.{◌≡◌, refl, sym, ap, ◌∙◌}
-use native.Mathlib.Omega.{arith}
-use borrow.Author.Rules.{rules}
-use borrow.Author.Tests.{not-true, not-false}
+use Prim.Native.Nat.{◌<◌}
+use mathlib.Core.Path.{◌≡◌}
 use lib.ListN.{length}
-use Rattle.execution.specs.Issue.{issue}
-use Rattle.machine.specs.Rounds.{after_rounds}
-use Rattle.machine.specs.Scheduler.{choice, with_last}
 use Rattle.machine.specs.State.{state, recounted}
-use Rattle.machine.proofs.Claims.{chooses, turned, rounds-counted}
-use Rattle.machine.proofs.Tests.{never}
-use Rattle.interpreter.specs.Stretch.{Along, CameTo}
-use Rattle.interpreter.specs.Types.{Chosen, NoneRunning}
-use Rattle.interpreter.proofs.Issuing.{chosen-beside, look_none, look-some, carried-start, issue-untouched, issue-last, awaited-made, awaited-on, awaited-some, over-idle, over-spent}
-use Rattle.interpreter.proofs.Runs.{carried-within}
+use Rattle.interpreter.specs.Stretch.{Along}
 use Rattle.interpreter.proofs.running.make_stretch.Given as goal
 
 abbrev pub invariant-loop-machine : goal.invariant-loop-machine

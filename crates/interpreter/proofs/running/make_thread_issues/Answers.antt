@@ -1,14 +1,11 @@
 -- `running::make_thread_issues` meets its contract: each issue is the rules' next one, as long as the thread was "last" already.
-use Prim.Native.Nat.{◌+◌, ◌-◌, ◌*◌, ◌<◌, ◌≤◌}
+use Prim.Native.Nat.{◌+◌, ◌-◌}
 use mathlib.Core.Path.{◌≡◌, refl, sym, ap, ◌∙◌}
 use native.Mathlib.Omega.{arith}
-use borrow.Author.Rules.{rules}
-use borrow.Author.Tests.{eqb-false, not-true, not-false}
+use borrow.Author.Tests.{eqb-false}
 use lib.Dec.{eqb}
-use lib.ListN.{length}
 use Rattle.machine.specs.Scheduler.{choice, with_last}
 use Rattle.machine.proofs.Tests.{neither}
-use Rattle.interpreter.specs.Stretch.{Chooses, Goes}
 use Rattle.interpreter.proofs.Issuing.{along-step}
 use Rattle.interpreter.proofs.running.make_thread_issues.Goals as goal
 
@@ -17,11 +14,11 @@ loop-thread-init c =
     (c.requires.0, omega arith, refl, refl, omega arith, λ b first m turns last words regs size same h k. record { before = last; along = k; chosen = h })
 
 -- the word is left to the slow path
-pub returns-then-not-done : goal.returns-then-not-done
-returns-then-not-done c =
+pub returns-then-not-try_word : goal.returns-then-not-try_word
+returns-then-not-try_word c =
     let l = c.loop-thread in
-    let tried = c.try_word-done in
-    let stays = rw (c.if-not-done.true) at tried.ensures in
+    let tried = c.try_word in
+    let stays = rw (c.if-not-try_word.true) at tried.ensures in
     let back : l.left - 1 + 1 ≡ l.left = omega (arith, l.invariant.0) in
     record {
       last = refl;
@@ -44,8 +41,8 @@ returns-then-not-done c =
 pub returns-then-left-others : goal.returns-then-left-others
 returns-then-left-others c =
     let l = c.loop-thread in
-    let tried = c.try_word-done in
-    let made = rw (c.if-not-done.false) at tried.ensures in
+    let tried = c.try_word in
+    let made = rw (c.if-not-try_word.false) at tried.ensures in
     record {
       last = refl;
       fewer = omega (arith, l.invariant.0, l.invariant.1);
@@ -61,8 +58,8 @@ returns-then-left-others c =
 pub loop-thread-preserved : goal.loop-thread-preserved
 loop-thread-preserved c =
     let l = c.loop-thread in
-    let tried = c.try_word-done in
-    let made = rw (c.if-not-done.false) at tried.ensures in
+    let tried = c.try_word in
+    let made = rw (c.if-not-try_word.false) at tried.ensures in
     let on = neither (eqb (l.left - 1) 0) c.args.others c.if-left-others.false in (
       omega (arith, eqb-false (l.left - 1) 0 on.0),
       omega (arith, l.invariant.1),
@@ -86,17 +83,17 @@ overflow_add-passed c = let l = c.loop-thread in omega (arith, l.invariant.4, c.
 pub overflow_sub-left : goal.overflow_sub-left
 overflow_sub-left c = omega (arith, c.loop-thread.invariant.0)
 
-pub shape_of-registers-then-not-done : goal.shape_of-registers-then-not-done
-shape_of-registers-then-not-done c = c.try_word-done.auto.regs ∙ c.loop-thread.invariant.2
+pub shape_of-registers-then-not-try_word : goal.shape_of-registers-then-not-try_word
+shape_of-registers-then-not-try_word c = c.try_word.auto.regs ∙ c.loop-thread.invariant.2
 
-pub shape_of-memory-then-not-done : goal.shape_of-memory-then-not-done
-shape_of-memory-then-not-done c = c.try_word-done.auto.memory ∙ c.loop-thread.invariant.3
+pub shape_of-memory-then-not-try_word : goal.shape_of-memory-then-not-try_word
+shape_of-memory-then-not-try_word c = c.try_word.auto.memory ∙ c.loop-thread.invariant.3
 
 pub shape_of-registers-then-left-others : goal.shape_of-registers-then-left-others
-shape_of-registers-then-left-others c = c.try_word-done.auto.regs ∙ c.loop-thread.invariant.2
+shape_of-registers-then-left-others c = c.try_word.auto.regs ∙ c.loop-thread.invariant.2
 
 pub shape_of-memory-then-left-others : goal.shape_of-memory-then-left-others
-shape_of-memory-then-left-others c = c.try_word-done.auto.memory ∙ c.loop-thread.invariant.3
+shape_of-memory-then-left-others c = c.try_word.auto.memory ∙ c.loop-thread.invariant.3
 
 pub loop-thread-smaller : goal.loop-thread-smaller
 loop-thread-smaller c = omega (arith, c.loop-thread.invariant.0)

@@ -1,15 +1,8 @@
 -- `running::make_thread_issues` meets its contract: each issue is the rules' next one, as long as the thread was "last" already.
-use Prim.Native.Nat.{◌+◌, ◌-◌, ◌*◌, ◌<◌, ◌≤◌}
-use mathlib.Core.Path.{◌≡◌, refl, sym, ap, ◌∙◌}
-use native.Mathlib.Omega.{arith}
-use borrow.Author.Rules.{rules}
-use borrow.Author.Tests.{eqb-false, not-true, not-false}
-use lib.Dec.{eqb}
+use Prim.Native.Nat.{◌+◌, ◌*◌, ◌<◌, ◌≤◌}
+use mathlib.Core.Path.{◌≡◌}
 use lib.ListN.{length}
-use Rattle.machine.specs.Scheduler.{choice, with_last}
-use Rattle.machine.proofs.Tests.{neither}
 use Rattle.interpreter.specs.Stretch.{Chooses, Goes}
-use Rattle.interpreter.proofs.Issuing.{along-step}
 use Rattle.interpreter.proofs.running.make_thread_issues.Given as goal
 
 abbrev pub invariant-loop-thread : goal.invariant-loop-thread

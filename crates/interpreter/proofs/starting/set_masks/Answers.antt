@@ -1,9 +1,7 @@
 -- `starting::set_masks` meets its contract.
-use Prim.Native.Nat.{◌-◌, ◌≤◌}
 use mathlib.Core.Path.{◌≡◌, refl, ap, ◌∙◌}
 use native.Mathlib.Omega.{arith}
-use borrow.Author.Rules.{rules}
-use lib.ListN.{length, set, length-set}
+use lib.ListN.{set, length-set}
 use Rattle.machine.specs.State.{scalar_index, lane_mask_register}
 use Rattle.interpreter.specs.Start.{with_masks}
 use Rattle.interpreter.proofs.Rooms.{masks-more}
