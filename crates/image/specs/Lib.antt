@@ -1,5 +1,6 @@
 -- The saved image: what the contracts cite.
 pub mod Types
+pub mod Saved
 pub mod Fields
 pub mod Image
 pub mod Refusal

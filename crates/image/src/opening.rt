@@ -3,7 +3,7 @@ ghost use Rattle.std.specs.Prelude.{◌≡◌};
 ghost use Rattle.image.specs.Opening.{record_bytes, judged, read_opening};
 
 use crate::verdicts::judge_kinds;
-use crate::writing::put_kinds;
+use crate::writing::Saved;
 use answer::Refusal;
 use image_layout::{Form, RECORD_KINDS, Shape};
 use machine::Machine;
@@ -21,7 +21,13 @@ const NO_BLOCKS: Shape = Shape {
 pub fn write_record(machine: Machine, buffer: &mut [u8; RECORD_LENGTH])
     ensures { buffer.new ≡ record_bytes machine }
 {
-    put_kinds(NO_BLOCKS, RECORD_KINDS, &[], &[], machine, buffer);
+    let saved = Saved {
+        shape: NO_BLOCKS,
+        registers: &[],
+        memory: &[],
+        machine,
+    };
+    saved.put_kinds(RECORD_KINDS, buffer);
 }
 
 // A machine record is read: what is accepted is well formed.

@@ -4,6 +4,7 @@ ghost use Rattle.machine.specs.State.{state};
 ghost use Rattle.image_layout.specs.Join.{Grown};
 ghost use Rattle.image_layout.specs.Layout.{thread_row, row_of, record_size, extent_of, record_of, section_of, laid_up_to, start_of};
 ghost use Rattle.image.specs.Calls.{written, write_as, write, write_old};
+ghost use Rattle.image.specs.Saved.{state_of};
 ghost use Rattle.image.specs.Image.{Suits, SuitsUpTo, status_bytes, field_bytes, body_of};
 
 use crate::bytes::{copy_sixteens, put_word, put_words};
@@ -38,113 +39,78 @@ fn put_fields(form: Form, fields: ThreadFields, buffer: &mut [u8], at: usize) ->
     }
 }
 
-// What stands behind the place numbers of record i, stored from a place on; the next place.
-fn put_body(
-    shape: Shape,
-    kind: Kind,
-    registers: &[u32],
-    memory: &[u8],
-    machine: Machine,
-    i: usize,
-    buffer: &mut [u8],
-    at: usize,
-) -> usize
-    requires { Suits shape kind registers.now memory.now × (i < (row_of shape kind).count) × (at + (row_of shape kind).size ≤ length buffer.old) }
-    ensures { Grown buffer.old buffer.new at result (body_of shape.form (state machine registers.now memory.now) kind i) }
-{
-    match kind {
-        Kind::Hd => {
-            buffer[at] = machine.last;
-            buffer[at + 1] = machine.enabled;
-            at + 2
-        }
-        Kind::Ti => {
-            put_fields(
-                shape.form,
-                ThreadFields::from(machine.threads[i]),
-                buffer,
-                at,
-            )
-        }
-        Kind::Sr => {
-            put_words(registers, 64 * i, 16, buffer, at);
-            at + 256
-        }
-        Kind::Vr => {
-            put_words(registers, 512 + 16 * i, 4, buffer, at);
-            at + 64
-        }
-        Kind::Mm => {
-            copy_sixteens(memory, 64 * i, 4, buffer, at);
-            at + 64
+// A machine to save, and the shape of its image.
+#[derive(Clone, Copy)]
+pub struct Saved<'a> {
+    pub shape: Shape,
+    pub registers: &'a [u32],
+    pub memory: &'a [u8],
+    pub machine: Machine,
+}
+
+impl Saved<'_> {
+    // What stands behind the place numbers of record i, stored from a place on; the next place.
+    fn put_body(&self, kind: Kind, i: usize, buffer: &mut [u8], at: usize) -> usize
+        requires { Suits self.now.shape kind self.now.registers.now self.now.memory.now × (i < (row_of self.now.shape kind).count) × (at + (row_of self.now.shape kind).size ≤ length buffer.old) }
+        ensures { Grown buffer.old buffer.new at result (body_of self.now.shape.form (state_of self.now) kind i) }
+    {
+        match kind {
+            Kind::Hd => {
+                buffer[at] = self.machine.last;
+                buffer[at + 1] = self.machine.enabled;
+                at + 2
+            }
+            Kind::Ti => {
+                let fields = ThreadFields::from(self.machine.threads[i]);
+                put_fields(self.shape.form, fields, buffer, at)
+            }
+            Kind::Sr => {
+                put_words(self.registers, 64 * i, 16, buffer, at);
+                at + 256
+            }
+            Kind::Vr => {
+                put_words(self.registers, 512 + 16 * i, 4, buffer, at);
+                at + 64
+            }
+            Kind::Mm => {
+                copy_sixteens(self.memory, 64 * i, 4, buffer, at);
+                at + 64
+            }
         }
     }
-}
 
-// Record i of a kind stored from a place on; the next place.
-fn put_record(
-    shape: Shape,
-    kind: Kind,
-    registers: &[u32],
-    memory: &[u8],
-    machine: Machine,
-    i: usize,
-    buffer: &mut [u8],
-    at: usize,
-) -> usize
-    requires { Suits shape kind registers.now memory.now × (i < (row_of shape kind).count) × (at + record_size (row_of shape kind) ≤ length buffer.old) }
-    ensures { Grown buffer.old buffer.new at result (record_of (row_of shape kind) (body_of shape.form (state machine registers.now memory.now) kind) i) }
-{
-    let row = row_of(shape, kind);
-    let next = put_head(row, i, buffer, at);
-    put_body(shape, kind, registers, memory, machine, i, buffer, next)
-}
-
-// Every record of a kind, of which there are so many, stored from a place on; the next place.
-fn put_section(
-    shape: Shape,
-    kind: Kind,
-    count: usize,
-    registers: &[u32],
-    memory: &[u8],
-    machine: Machine,
-    buffer: &mut [u8],
-    at: usize,
-) -> usize
-    requires { Suits shape kind registers.now memory.now × (count ≡ (row_of shape kind).count) × (at + extent_of (row_of shape kind) ≤ length buffer.old) }
-    ensures { Grown buffer.old buffer.new at result (section_of (row_of shape kind) (body_of shape.form (state machine registers.now memory.now) kind)) }
-{
-    let mut next = at;
-    for i in 0..count {
-        next = put_record(shape, kind, registers, memory, machine, i, buffer, next);
+    // Record i of a kind stored from a place on; the next place.
+    fn put_record(&self, kind: Kind, i: usize, buffer: &mut [u8], at: usize) -> usize
+        requires { Suits self.now.shape kind self.now.registers.now self.now.memory.now × (i < (row_of self.now.shape kind).count) × (at + record_size (row_of self.now.shape kind) ≤ length buffer.old) }
+        ensures { Grown buffer.old buffer.new at result (record_of (row_of self.now.shape kind) (body_of self.now.shape.form (state_of self.now) kind) i) }
+    {
+        let row = row_of(self.shape, kind);
+        let next = put_head(row, i, buffer, at);
+        self.put_body(kind, i, buffer, next)
     }
-    next
-}
 
-// The records of the first n kinds.
-pub fn put_kinds(
-    shape: Shape,
-    n: usize,
-    registers: &[u32],
-    memory: &[u8],
-    machine: Machine,
-    buffer: &mut [u8],
-)
-    requires { SuitsUpTo n shape registers.now memory.now × (start_of shape n ≡ length buffer.old) }
-    ensures { buffer.new ≡ laid_up_to n shape (body_of shape.form (state machine registers.now memory.now)) }
-{
-    let mut next: usize = 0;
-    for position in 0..n {
-        next = put_section(
-            shape,
-            kind_at(position),
-            count_at(shape, position),
-            registers,
-            memory,
-            machine,
-            buffer,
-            next,
-        );
+    // Every record of a kind, of which there are so many, stored from a place on; the next place.
+    fn put_section(&self, kind: Kind, count: usize, buffer: &mut [u8], at: usize) -> usize
+        requires { Suits self.now.shape kind self.now.registers.now self.now.memory.now × (count ≡ (row_of self.now.shape kind).count) × (at + extent_of (row_of self.now.shape kind) ≤ length buffer.old) }
+        ensures { Grown buffer.old buffer.new at result (section_of (row_of self.now.shape kind) (body_of self.now.shape.form (state_of self.now) kind)) }
+    {
+        let mut next = at;
+        for i in 0..count {
+            next = self.put_record(kind, i, buffer, next);
+        }
+        next
+    }
+
+    // The records of the first n kinds.
+    pub fn put_kinds(&self, n: usize, buffer: &mut [u8])
+        requires { SuitsUpTo n self.now.shape self.now.registers.now self.now.memory.now × (start_of self.now.shape n ≡ length buffer.old) }
+        ensures { buffer.new ≡ laid_up_to n self.now.shape (body_of self.now.shape.form (state_of self.now)) }
+    {
+        let mut next: usize = 0;
+        for position in 0..n {
+            let count = count_at(self.shape, position);
+            next = self.put_section(kind_at(position), count, buffer, next);
+        }
     }
 }
 
@@ -167,14 +133,13 @@ pub fn write_as(
     )?;
     judge_record(form, dropping, machine)?;
     let blocks = (memory.len() / 64) as u16;
-    put_kinds(
-        Shape { form, blocks },
-        KINDS,
+    let saved = Saved {
+        shape: Shape { form, blocks },
         registers,
         memory,
         machine,
-        buffer,
-    );
+    };
+    saved.put_kinds(KINDS, buffer);
     Ok(())
 }
 

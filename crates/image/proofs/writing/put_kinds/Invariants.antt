@@ -1,9 +1,0 @@
--- `writing::put_kinds` meets its contract.
-use Rattle.machine.specs.State.{state}
-use Rattle.image_layout.proofs.Rows.{section_at}
-use Rattle.image_layout.specs.Join.{concat_below, Grown}
-use Rattle.image.specs.Image.{body_of}
-use Rattle.image.proofs.writing.put_kinds.Given as goal
-
-abbrev pub invariant-loop-position : goal.invariant-loop-position
-invariant-loop-position l = Grown l.initial.buffer l.buffer 0 l.next (concat_below l.position (section_at l.shape (body_of l.shape.form (state l.machine l.registers l.memory))))
