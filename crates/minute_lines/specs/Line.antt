@@ -2,7 +2,7 @@
 use Rattle.std.specs.Prelude.{ℕ, ◌+◌, ◌-◌, ◌*◌, Bool, true, false, ◌&&◌, cond, List, [], ◌∷◌, leb, eqb}
 use Rattle.std.proofs.Math.Option.{Option, none, some}
 use Rattle.night.specs.Clock.{out_of_day}
-use Rattle.minute_lines.specs.Types.{Reading, Minute, NoMinute}
+use Rattle.minute_lines.specs.Types.{Reading, CodeOption, Some, None}
 
 -- a minute, and whether the fall-back is marked
 pub record Given : Type 0 where
@@ -10,9 +10,9 @@ pub record Given : Type 0 where
   pub marked : Bool
 
 -- as the code says it
-abbrev pub given : Reading → Option Given
-given (Minute minute marked) = some (record { minute = minute; marked = marked })
-given NoMinute = none
+abbrev pub given : CodeOption Reading → Option Given
+given (Some reading) = some (record { minute = reading.minute; marked = reading.marked })
+given None = none
 
 -- "digits": `0` to `9`
 abbrev pub is_digit : ℕ → Bool

@@ -2,7 +2,7 @@
 pub use Rattle.minute_lines.specs.declared.parsing.Line.{Line}
 pub use Rattle.minute_lines.specs.declared.parsing.Line.TheVariants.{Empty, Digits, Marked, Wrong}
 pub use Rattle.minute_lines.specs.declared.parsing.Reading.{Reading}
-pub use Rattle.minute_lines.specs.declared.parsing.Reading.TheVariants.{Minute, NoMinute}
+pub use Rattle.std.specs.Prelude.{Option as CodeOption, Some, None}
 pub use Rattle.minute_lines.specs.declared.taking.Held.{Held}
 pub use Rattle.minute_lines.specs.declared.taking.Step.{Step}
 pub use Rattle.night.specs.declared.outcome.Kept.{Kept}

@@ -9,6 +9,7 @@ use night::TickAnswer;
 use text::{put_decimal, put_text};
 
 // The line of a minute that was taken.
+#[tactic(auto, unfolding(crate::specs::Answers::report_parts, isa::specs::Text::bytes))]
 fn put_report(out: &mut [u8], minute: u32, skipped: u32, relays: u32) -> usize
     ensures { wrote result out.new ≡ puts_all (wrote 0 out.old) (report_parts minute skipped relays) }
 {
@@ -21,6 +22,7 @@ fn put_report(out: &mut [u8], minute: u32, skipped: u32, relays: u32) -> usize
 }
 
 // The line of one that was refused.
+#[tactic(auto, unfolding(crate::specs::Answers::refusal_parts, isa::specs::Text::bytes))]
 fn put_refusal(out: &mut [u8], number: u8) -> usize
     ensures { wrote result out.new ≡ puts_all (wrote 0 out.old) (refusal_parts number) }
 {

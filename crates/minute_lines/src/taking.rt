@@ -3,7 +3,7 @@ ghost use Rattle.std.specs.Prelude.{◌≡◌};
 ghost use Rattle.machine.specs.State.{state};
 ghost use Rattle.night.specs.Tick.{outcome};
 ghost use Rattle.minute_lines.specs.Parsing.{reading_in};
-ghost use Rattle.minute_lines.specs.Taking.{is_empty, held, held_in, stepped, tick_on, end_line, take_byte, take_end, shown};
+ghost use Rattle.minute_lines.specs.Taking.{is_empty, held_in, stepped, tick_on, end_line, take_byte, take_end, shown};
 
 use crate::answers::{LONGEST, write_answer};
 use crate::parsing::{Line, Reading, minute_in, with_byte};
@@ -26,27 +26,25 @@ pub struct Step {
 }
 
 // A line that is whole: a minute makes a call of the night box, and anything else is refused with 19.
-fn tick_on(
-    program: &[u32],
-    registers: &mut [u32],
-    memory: &mut [u8],
-    machine: Machine,
-    kept: Kept,
-    line: Line,
-) -> Tick
+fn tick_on(program: &[u32], registers: &mut [u32], memory: &mut [u8], before: Held) -> Tick
     ensures { outcome result registers.new memory.new
-        ≡ tick_on program.now (state machine registers.old memory.old) kept (reading_in line) }
+        ≡ tick_on program.now (state before.machine registers.old memory.old) before.kept (reading_in before.line) }
 {
-    let read = minute_in(line);
-    match read {
-        Reading::NoMinute => Tick {
+    match minute_in(before.line) {
+        None => Tick {
             answer: TickAnswer::Refused(19),
-            machine,
-            kept,
+            machine: before.machine,
+            kept: before.kept,
         },
-        Reading::Minute(minute, marked) => {
-            night::tick(program, registers, memory, machine, kept, minute, marked)
-        }
+        Some(Reading { minute, marked }) => night::tick(
+            program,
+            registers,
+            memory,
+            before.machine,
+            before.kept,
+            minute,
+            marked,
+        ),
     }
 }
 
@@ -55,23 +53,18 @@ fn end_line(
     program: &[u32],
     registers: &mut [u32],
     memory: &mut [u8],
-    machine: Machine,
-    kept: Kept,
-    line: Line,
+    before: Held,
     out: &mut [u8; LONGEST],
 ) -> Step
     ensures { stepped result registers.new memory.new out.new
-        ≡ shown out.old (end_line program.now (held machine kept line registers.old memory.old)) }
+        ≡ shown out.old (end_line program.now (held_in before registers.old memory.old)) }
 {
-    let tick = tick_on(program, registers, memory, machine, kept, line);
-    let answer = tick.answer;
-    let machine = tick.machine;
-    let kept = tick.kept;
-    let printed = write_answer(answer, out);
+    let tick = tick_on(program, registers, memory, before);
+    let printed = write_answer(tick.answer, out);
     Step {
         held: Held {
-            machine,
-            kept,
+            machine: tick.machine,
+            kept: tick.kept,
             line: Line::Empty,
         },
         printed,
@@ -90,17 +83,13 @@ pub fn take_byte(
     ensures { stepped result registers.new memory.new out.new
         ≡ shown out.old (take_byte program.now (held_in before registers.old memory.old) byte) }
 {
-    let machine = before.machine;
-    let kept = before.kept;
-    let line = before.line;
     if byte == 10 {
-        return end_line(program, registers, memory, machine, kept, line, out);
+        return end_line(program, registers, memory, before, out);
     }
     Step {
         held: Held {
-            machine,
-            kept,
-            line: with_byte(line, byte),
+            line: with_byte(before.line, byte),
+            ..before
         },
         printed: 0,
     }
@@ -109,12 +98,7 @@ pub fn take_byte(
 fn is_empty(line: Line) -> bool
     ensures { result ≡ is_empty line }
 {
-    match line {
-        Line::Empty => true,
-        Line::Digits(_) => false,
-        Line::Marked(_) => false,
-        Line::Wrong => false,
-    }
+    matches!(line, Line::Empty)
 }
 
 // The end of the input: a last line needs no line end.
@@ -128,14 +112,11 @@ pub fn take_end(
     ensures { stepped result registers.new memory.new out.new
         ≡ shown out.old (take_end program.now (held_in before registers.old memory.old)) }
 {
-    let machine = before.machine;
-    let kept = before.kept;
-    let line = before.line;
-    if is_empty(line) {
+    if is_empty(before.line) {
         return Step {
             held: before,
             printed: 0,
         };
     }
-    end_line(program, registers, memory, machine, kept, line, out)
+    end_line(program, registers, memory, before, out)
 }
