@@ -7,6 +7,7 @@ ghost use Rattle.report.specs.Report.{looks_parts, looks_line};
 use text::{put_long, put_text};
 
 // Puts the parts of the line one behind the other.
+#[tactic(auto, unfolding(isa::specs::Text::bytes))]
 fn put_looks(out: &mut [u8], looks: u64) -> usize
     ensures { wrote result out.new ≡ puts_all (wrote 0 out.old) (looks_parts looks) }
 {

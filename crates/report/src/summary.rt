@@ -10,16 +10,19 @@ use text::{put_decimal, put_text};
 use thread_lines::put_threads;
 
 // What is counted, and the end of the first line.
+#[tactic(auto, unfolding(crate::specs::Report::counted, isa::specs::Text::bytes))]
 fn put_counted(out: &mut [u8], at: usize, issues: u32) -> usize
     ensures { wrote result out.new ≡ puts (wrote at out.old) (counted issues) }
 {
     if issues == 1 {
-        return put_text(out, at, b" issue\n");
+        put_text(out, at, b" issue\n")
+    } else {
+        put_text(out, at, b" issues\n")
     }
-    put_text(out, at, b" issues\n")
 }
 
 // The first line, from the word for the answer on, and the lines of the threads.
+#[tactic(auto, unfolding(isa::specs::Text::bytes))]
 fn put_body(out: &mut [u8], word: &[u8], run: Run, registers: &[u32; REGISTER_WORDS]) -> usize
     ensures { wrote result out.new ≡ puts_all (wrote 0 out.old) (body_parts word.now run.issues run.machine registers.now) }
 {
@@ -27,8 +30,7 @@ fn put_body(out: &mut [u8], word: &[u8], run: Run, registers: &[u32; REGISTER_WO
     let at = put_text(out, at, b" after ");
     let at = put_decimal(out, at, run.issues);
     let at = put_counted(out, at, run.issues);
-    let machine = run.machine;
-    put_threads(out, at, machine, registers)
+    put_threads(out, at, run.machine, registers)
 }
 
 // The longest text: 32 bytes for the first line, 93 for each thread, and 101 for the line of those that are off.
@@ -38,8 +40,7 @@ pub const LONGEST: usize = 877;
 pub fn write_report(run: Run, registers: &[u32; REGISTER_WORDS], out: &mut [u8; LONGEST]) -> usize
     ensures { wrote result out.new ≡ writes out.old 0 (report run registers.now) }
 {
-    let answer = run.answer;
-    match answer {
+    match run.answer {
         RunAnswer::Stopped => put_body(out, b"stopped", run, registers),
         RunAnswer::Stuck => put_body(out, b"stuck", run, registers),
         RunAnswer::Spent => put_body(out, b"spent", run, registers),

@@ -12,23 +12,23 @@ use Rattle.machine.specs.State.{State, state}
 use Rattle.trace.specs.Joining.{continued_run}
 use Rattle.trace.specs.Rows.{row_of, rows_of, onto}
 use Rattle.trace.specs.Traced.{least, traced, run_traced, is_spent}
-use Rattle.trace.specs.Turn.{progress_of, Begun, next_thread, row_after, Advanced}
-use Rattle.trace.specs.Types.{Row, Progress, Step, RunAnswer, Stopped, Stuck, Spent, Refused, Machine, Chosen}
+use Rattle.trace.specs.Turn.{next_thread, row_after, Advanced}
+use Rattle.trace.specs.Types.{Row, Run, Step, RunAnswer, Stopped, Stuck, Spent, Refused, Machine, Chosen}
 use Rattle.trace.proofs.Lists.{onto-set, no_rows, one-row, rows_append, rows-length}
 use Rattle.trace.proofs.Rules.{taken-still, joined, one-issue, one-reached, spent-chosen, ended-for-good}
 
 -- where the loop stands
 pub record Place : Type 0 where
-  pub progress : Progress
+  pub run : Run
   pub registers : List ℕ
   pub memory : List ℕ
   pub rows : List Row
 
-abbrev pub place : Progress → List ℕ → List ℕ → List Row → Place
-place progress registers memory rows = record { progress = progress; registers = registers; memory = memory; rows = rows }
+abbrev pub place : Run → List ℕ → List ℕ → List Row → Place
+place run registers memory rows = record { run = run; registers = registers; memory = memory; rows = rows }
 
 abbrev made : Place → ℕ
-made x = x.progress.run.issues
+made x = x.run.issues
 
 -- the most issues that it may make
 pub record Limited (limit : ℕ) (lent : List Row) : Type 0 where
@@ -45,8 +45,7 @@ limited budget lent l = go (ltb (length lent) budget) refl
 
 -- what stays true from turn to turn: so far it is the plain run with a budget of the issues made
 pub record Follows (p : List ℕ) (s : State) (limit : ℕ) (lent : List Row) (x : Place) : Type 0 where
-  pub progress : x.progress ≡ progress_of x.progress.run limit
-  pub ran : outcome x.progress.run x.registers x.memory ≡ run p (made x) s
+  pub ran : outcome x.run x.registers x.memory ≡ run p (made x) s
   pub within : made x ≤ limit
   pub rows : x.rows ≡ onto (rows_of p (run_issues p (made x) s)) lent
 
@@ -59,14 +58,13 @@ none_made p s = go (run_issues p 0 s) (within-budget p 0 s)
     go [] l = refl
     go (i ∷ is) l = absurd (omega arith)
 
-pub begins : (p : List ℕ) (s : State) (limit : ℕ) (lent : List Row) (r : Progress) (registers memory : List ℕ)
-    → Begun p s limit r registers memory → Follows p s limit lent (place r registers memory lent)
+pub begins : (p : List ℕ) (s : State) (limit : ℕ) (lent : List Row) (r : Run) (registers memory : List ℕ)
+    → outcome r registers memory ≡ run p 0 s → Follows p s limit lent (place r registers memory lent)
 unfolding run
-begins p s limit lent r registers memory b =
-    let zero-made : r.run.issues ≡ 0 = ap (λ (o : Outcome). o.issues) b.ran ∙ ap length (none_made p s) in
+begins p s limit lent r registers memory ran =
+    let zero-made : r.issues ≡ 0 = ap (λ (o : Outcome). o.issues) ran ∙ ap length (none_made p s) in
     record {
-      progress = b.progress;
-      ran = b.ran ∙ ap (λ k. run p k s) (sym zero-made);
+      ran = ran ∙ ap (λ k. run p k s) (sym zero-made);
       within = omega arith;
       rows = sym (ap (λ k. onto (rows_of p (run_issues p k s)) lent) zero-made ∙ ap (λ is. onto (rows_of p is) lent) (none_made p s)
           ∙ no_rows p lent);
@@ -90,28 +88,28 @@ both true b e = (refl, e)
 both false b e = absurd (let z : ◌≡◌ {A = ℕ} 0 1 = cc in omega arith)
 
 module _ (p : List ℕ) (s : State) (limit : ℕ) (lent : List Row) (x : Place) (bound : Limited limit lent) (f : Follows p s limit lent x)
-    (go : x.progress.go ≡ true) (r : Step) (registers memory : List ℕ)
-    (a : Advanced p x.progress x.registers x.memory r registers memory) where
+    (go : (is_spent x.run.answer && ltb x.run.issues limit) ≡ true) (r : Step) (registers memory : List ℕ)
+    (a : Advanced p x.run x.registers x.memory r registers memory) where
   abbrev n : ℕ
   n = made x
 
   -- the state that it stands in
   abbrev here : State
-  here = state x.progress.run.machine x.registers x.memory
+  here = state x.run.machine x.registers x.memory
 
   at_here : here ≡ run_reached p n s
   unfolding run
   at_here = ap (λ (o : Outcome). o.left) f.ran
 
-  goes : (is_spent x.progress.run.answer ≡ true) × (ltb n limit ≡ true)
-  goes = both (is_spent x.progress.run.answer) (ltb n limit) (sym (ap (λ (q : Progress). q.go) f.progress) ∙ go)
+  goes : (is_spent x.run.answer ≡ true) × (ltb n limit ≡ true)
+  goes = both (is_spent x.run.answer) (ltb n limit) go
 
   below : n < limit
   below = ltb-true n limit goes.1
 
   spent-here : run_answer p n s ≡ given spent
   unfolding run
-  spent-here = sym (ap (λ (o : Outcome). o.answer) f.ran) ∙ spent-given x.progress.run.answer goes.0
+  spent-here = sym (ap (λ (o : Outcome). o.answer) f.ran) ∙ spent-given x.run.answer goes.0
 
   taken : number p s ≡ none
   taken = sym (answers_number p n s) ∙ ap number_in spent-here
@@ -127,9 +125,9 @@ module _ (p : List ℕ) (s : State) (limit : ℕ) (lent : List Row) (x : Place) 
   abbrev issue : Issue
   issue = record { before = here; thread = chosen.0 }
 
-  more : run p (n + 1) s ≡ outcome (continued_run x.progress.run a.one) registers memory
+  more : run p (n + 1) s ≡ outcome (continued_run x.run a.one) registers memory
   more =
-      sym (joined p n 1 s x.progress.run a.one x.registers x.memory registers memory (omega (arith, below, bound.small)) taken
+      sym (joined p n 1 s x.run a.one x.registers x.memory registers memory (omega (arith, below, bound.small)) taken
       f.ran (a.ran ∙ ap (run p 1) at_here))
 
   more-issues : run_issues p (n + 1) s ≡ run_issues p n s ++ issue ∷ []
@@ -142,10 +140,10 @@ module _ (p : List ℕ) (s : State) (limit : ℕ) (lent : List Row) (x : Place) 
   unfolding run
   so-many = sym (ap (λ (o : Outcome). o.issues) f.ran)
 
-  one-made : r.next.run.issues ≡ n + 1
+  one-made : r.run.issues ≡ n + 1
   unfolding run
   one-made =
-      ap (λ (q : Progress). q.run.issues) a.next
+      ap (λ (q : Run). q.issues) a.next
       ∙ sym (ap (λ (o : Outcome). o.issues) more)
       ∙ ap length more-issues
       ∙ length-append (run_issues p n s) (issue ∷ [])
@@ -166,19 +164,15 @@ module _ (p : List ℕ) (s : State) (limit : ℕ) (lent : List Row) (x : Place) 
       ∙ ap (λ k. row_after p x.registers k a.one.machine) next-is
       ∙ ap (λ (y : State). row_after p x.registers chosen.0 y.machine) reached-one
 
-  pub follows_on : Follows p s limit lent (place r.next registers memory (set x.rows r.at r.row))
+  pub follows_on : Follows p s limit lent (place r.run registers memory (set x.rows n r.row))
   follows_on =
-      let next-run : r.next.run ≡ continued_run x.progress.run a.one = ap (λ (q : Progress). q.run) a.next in
-      let same-limit : x.progress.limit ≡ limit = ap (λ (q : Progress). q.limit) f.progress in
       let len : length (rows_of p (run_issues p n s)) ≡ n = rows-length p (run_issues p n s) ∙ so-many in
       record {
-        progress = a.next ∙ ap (λ k. progress_of (continued_run x.progress.run a.one) k) same-limit
-            ∙ ap (λ q. progress_of q limit) (sym next-run);
-        ran = ap (λ q. outcome q registers memory) next-run ∙ sym more ∙ ap (λ k. run p k s) (sym one-made);
+        ran = ap (λ q. outcome q registers memory) a.next ∙ sym more ∙ ap (λ k. run p k s) (sym one-made);
         within = omega (arith, one-made, below);
         rows =
-            ap (λ l. set l r.at r.row) f.rows
-            ∙ ap (λ k. set (onto (rows_of p (run_issues p n s)) lent) k r.row) (a.at ∙ sym len)
+            ap (λ l. set l n r.row) f.rows
+            ∙ ap (λ k. set (onto (rows_of p (run_issues p n s)) lent) k r.row) (sym len)
             ∙ onto-set (rows_of p (run_issues p n s)) lent r.row (omega (arith, len, below, bound.room))
             ∙ ap (λ y. onto (rows_of p (run_issues p n s) ++ y ∷ []) lent) row_is
             ∙ ap (λ l. onto l lent) (sym (ap (rows_of p) more-issues ∙ rows_append p (run_issues p n s) (issue ∷ [])
@@ -186,7 +180,7 @@ module _ (p : List ℕ) (s : State) (limit : ℕ) (lent : List Row) (x : Place) 
             ∙ ap (λ k. onto (rows_of p (run_issues p k s)) lent) (sym one-made);
       }
 
-  pub nearer : limit - made (place r.next registers memory (set x.rows r.at r.row)) < limit - made x
+  pub nearer : limit - made (place r.run registers memory (set x.rows n r.row)) < limit - made x
   nearer = omega (arith, one-made, below)
 
 -- The end.
@@ -206,7 +200,7 @@ module _ (p : List ℕ) (s : State) (budget : ℕ) (lent : List Row) (x : Place)
   Whole = (run p most s ≡ run p (made x) s) × (run_issues p most s ≡ run_issues p (made x) s)
 
   -- it has made all its issues, or it has ended before
-  whole : Follows p s most lent x → (spent-so-far fewer : Bool) → is_spent x.progress.run.answer ≡ spent-so-far
+  whole : Follows p s most lent x → (spent-so-far fewer : Bool) → is_spent x.run.answer ≡ spent-so-far
       → ltb (made x) most ≡ fewer → (spent-so-far && fewer) ≡ false → Whole
   unfolding run
   whole f true true e g h = absurd (let z : ◌≡◌ {A = ℕ} 0 1 = cc in omega arith)
@@ -217,17 +211,16 @@ module _ (p : List ℕ) (s : State) (budget : ℕ) (lent : List Row) (x : Place)
       let rest : ℕ = most - made x in
       let all : most ≡ made x + rest = omega (arith, f.within) in
       let w = ended-for-good p (made x) rest s
-      (λ k. not-spent x.progress.run.answer e (ap (λ (o : Outcome). o.answer) f.ran ∙ k)) in
+      (λ k. not-spent x.run.answer e (ap (λ (o : Outcome). o.answer) f.ran ∙ k)) in
       (ap (λ b. run p b s) all ∙ w.0, ap (λ b. run_issues p b s) all ∙ w.1)
 
-  pub finishes : Follows p s most lent x → x.progress.go ≡ false
-      → traced x.progress.run x.registers x.memory x.rows ≡ run_traced p budget s lent
+  pub finishes : Follows p s most lent x → (is_spent x.run.answer && ltb x.run.issues most) ≡ false
+      → traced x.run x.registers x.memory x.rows ≡ run_traced p budget s lent
   unfolding run_traced
   finishes f stopped-here =
-      let w = whole f (is_spent x.progress.run.answer) (ltb (made x) most) refl refl
-      (sym (ap (λ (q : Progress). q.go) f.progress) ∙ stopped-here) in
+      let w = whole f (is_spent x.run.answer) (ltb (made x) most) refl refl stopped-here in
       rw (w.0, w.1) (traced-is f.ran f.rows)
     where
-      traced-is : {o : Outcome} {l : List Row} → outcome x.progress.run x.registers x.memory ≡ o → x.rows ≡ l
-          → traced x.progress.run x.registers x.memory x.rows ≡ record { run = o; rows = l }
+      traced-is : {o : Outcome} {l : List Row} → outcome x.run x.registers x.memory ≡ o → x.rows ≡ l
+          → traced x.run x.registers x.memory x.rows ≡ record { run = o; rows = l }
       traced-is e g = cc

@@ -1,23 +1,13 @@
--- What the parts of the traced run promise its loop.
-use Rattle.std.specs.Prelude.{◌≡◌, ℕ, ◌&&◌, List, nat_lt}
+-- What a turn of the traced run's loop promises.
+use Rattle.std.specs.Prelude.{◌≡◌, ℕ, List}
 use Rattle.execution.specs.Registers.{program_counter}
 use Rattle.interpreter.specs.Run.{outcome, run}
 use Rattle.machine.specs.Machine.{status_at}
 use Rattle.machine.specs.Scheduler.{choose}
-use Rattle.machine.specs.State.{State, state}
+use Rattle.machine.specs.State.{state}
 use Rattle.trace.specs.Joining.{continued_run}
 use Rattle.trace.specs.Rows.{word_at}
-use Rattle.trace.specs.Traced.{is_spent}
-use Rattle.trace.specs.Types.{Row, Progress, Step, Run, Machine}
-
--- a run that is not refused, has a thread running and may make an issue more goes on
-abbrev pub progress_of : Run → ℕ → Progress
-progress_of r limit = record { run = r; limit = limit; go = is_spent r.answer && nat_lt r.issues limit }
-
--- where it begins from a state: as a run with no budget ends
-pub record Begun (p : List ℕ) (s : State) (limit : ℕ) (r : Progress) (registers memory : List ℕ) : Type 0 where
-  pub progress : r ≡ progress_of r.run limit
-  pub ran : outcome r.run registers memory ≡ run p 0 s
+use Rattle.trace.specs.Types.{Row, Step, Run, Machine}
 
 -- the thread that is issued next
 abbrev pub next_thread : Machine → ℕ
@@ -34,10 +24,9 @@ row_after p registers t reached =
     }
 
 -- one issue more, by a run with a budget of one
-pub record Advanced (p : List ℕ) (from : Progress) (registers memory : List ℕ) (r : Step) (left-registers left-memory : List ℕ) : Type 0
+pub record Advanced (p : List ℕ) (from : Run) (registers memory : List ℕ) (r : Step) (left-registers left-memory : List ℕ) : Type 0
   where
     pub one : Run
-    pub ran : outcome one left-registers left-memory ≡ run p 1 (state from.run.machine registers memory)
-    pub next : r.next ≡ progress_of (continued_run from.run one) from.limit
-    pub at : r.at ≡ from.run.issues
-    pub row : r.row ≡ row_after p registers (next_thread from.run.machine) one.machine
+    pub ran : outcome one left-registers left-memory ≡ run p 1 (state from.machine registers memory)
+    pub next : r.run ≡ continued_run from one
+    pub row : r.row ≡ row_after p registers (next_thread from.machine) one.machine

@@ -1,6 +1,5 @@
 -- The types that the code declares, and those of the crates below, by their names in the definitions.
 pub use Rattle.trace.specs.declared.row.Row.{Row}
-pub use Rattle.trace.specs.declared.tracing.Progress.{Progress}
 pub use Rattle.trace.specs.declared.tracing.Step.{Step}
 pub use Rattle.interpreter.specs.declared.outcome.RunAnswer.{RunAnswer}
 pub use Rattle.interpreter.specs.declared.outcome.RunAnswer.TheVariants.{Stopped, Stuck, Spent, Refused}

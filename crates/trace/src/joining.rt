@@ -24,18 +24,16 @@ fn entries_to_next(machine: Machine) -> u64
 
 // What a run hands back that does what `first` did, and then what `second` did from the machine that `first` left. Both looked at the
 // record between them, and the one run looks there once.
+#[tactic(auto, unfolding(crate::specs::Joining::continued_run, crate::specs::Joining::less_once))]
 pub fn continued(first: Run, second: Run) -> Run
     ensures { result ≡ continued_run first second }
 {
-    let between = first.machine;
-    let again = entries_to_next(between);
-    let answer = second.answer;
-    let machine = second.machine;
-    let looks = std::num::wrapping_add_u64(first.looks, second.looks);
+    let again = entries_to_next(first.machine);
+    let looks = first.looks.wrapping_add(second.looks);
     Run {
-        answer,
-        issues: std::num::wrapping_add_u32(first.issues, second.issues),
-        looks: std::num::wrapping_sub_u64(looks, again),
-        machine,
+        answer: second.answer,
+        issues: first.issues.wrapping_add(second.issues),
+        looks: looks.wrapping_sub(again),
+        machine: second.machine,
     }
 }

@@ -17,12 +17,6 @@ pub struct Page {
     pub rows: [Row; PAGE_ROWS],
 }
 
-fn paged(run: Run, rows: [Row; PAGE_ROWS]) -> Page
-    ensures { (result.run ≡ run) × (result.rows ≡ rows) }
-{
-    Page { run, rows }
-}
-
 // Lends the list to a traced run, and hands it back.
 pub fn run_page(
     program: &[u32],
@@ -30,12 +24,11 @@ pub fn run_page(
     memory: &mut [u8],
     machine: Machine,
     budget: u32,
-    rows: [Row; PAGE_ROWS],
+    mut rows: [Row; PAGE_ROWS],
 ) -> Page
     ensures { traced result.run registers.new memory.new result.rows
         ≡ run_traced program.now budget (state machine registers.old memory.old) rows }
 {
-    let mut list = rows;
-    let run = run_traced(program, registers, memory, machine, budget, &mut list);
-    paged(run, list)
+    let run = run_traced(program, registers, memory, machine, budget, &mut rows);
+    Page { run, rows }
 }

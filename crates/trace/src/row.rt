@@ -21,9 +21,7 @@ pub struct Row {
 pub fn next_thread(machine: Machine) -> u8
     ensures { result ≡ (choose machine).machine.last }
 {
-    let turn = machine.choose();
-    let next = turn.machine;
-    next.last
+    machine.choose().machine.last
 }
 
 // A thread's s63; 0 where the register file has none.
@@ -31,34 +29,27 @@ pub fn address_of(registers: &[u32], thread: u8) -> u32
     ensures { result ≡ program_counter registers.now thread }
 {
     let place = 64 * (thread as usize) + PROGRAM_COUNTER as usize;
-    if place < registers.len() {
-        return registers[place];
-    }
-    0
+    registers.get(place).copied().unwrap_or(0)
 }
 
 // The word at an address; 0 where the program has none there.
+#[tactic(auto, unfolding(crate::specs::Rows::word_at))]
 pub fn word_at(program: &[u32], address: u32) -> u32
     ensures { result ≡ word_at program.now address }
 {
-    let place = (address / 4) as usize;
     if 0 < address % 4 {
         return 0;
     }
-    if place < program.len() {
-        return program[place];
-    }
-    0
+    let place = (address / 4) as usize;
+    program.get(place).copied().unwrap_or(0)
 }
 
 // A thread's status; idle where there is no such thread.
 pub fn status_of(machine: Machine, thread: u8) -> Status
     ensures { result ≡ status_at machine thread }
 {
-    let place = thread as usize;
-    if 8 <= place {
-        return Status::Idle;
-    }
-    let entry = machine.threads[place];
-    entry.status
+    machine
+        .threads
+        .get(thread as usize)
+        .map_or(Status::Idle, |entry| entry.status)
 }

@@ -34,10 +34,8 @@ page-more w made rs i d h e f =
     ∙ ap (puts_all w) (sym (line-more made (take i rs) (get_or rs i d)))
     ∙ ap (λ (l : List Row). puts_all w (page_parts made l)) (sym (take-suc rs i d h))
 
--- where a page has fewer rows than are asked for, all are shown
-pub all_shown : (l : List ℕ) (made count : ℕ) (rs : List Row) → length l ≡ 6784 → length rs ≡ 64 → 64 < count
-    → puts_all (wrote 0 l) (page_parts made (take 64 rs)) ≡ writes l 0 (page_text made (take count rs))
+-- where a page has no more rows than are asked for, all are shown
+pub all_shown : (l : List ℕ) (made count : ℕ) (rs : List Row) → length l ≡ 6784 → length rs ≡ 64 → length rs ≤ count
+    → puts_all (wrote 0 l) (page_parts made rs) ≡ writes l 0 (page_text made (take count rs))
 all_shown l made count rs e h more =
-    page-whole l made 64 rs e h
-    ∙ ap (λ (k : List Row). writes l 0 (page_text made k))
-    (take_all 64 rs (omega (arith, h)) ∙ sym (take_all count rs (omega (arith, h, more))))
+    ap (λ (k : List Row). puts_all (wrote 0 l) (page_parts made k)) (sym (take_all count rs more)) ∙ page-whole l made count rs e h

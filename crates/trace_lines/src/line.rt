@@ -13,6 +13,7 @@ use thread_lines::put_carried;
 use trace::Row;
 
 // A status, with what it carries.
+#[tactic(auto, unfolding(isa::specs::Text::bytes))]
 fn put_status(out: &mut [u8], at: usize, status: Status) -> usize
     ensures { wrote result out.new ≡ puts_all (wrote at out.old) (status_parts status) }
 {
@@ -35,25 +36,18 @@ fn put_status(out: &mut [u8], at: usize, status: Status) -> usize
 fn is_outside(status: Status) -> bool
     ensures { result ≡ is_outside status }
 {
-    match status {
-        Status::Idle => false,
-        Status::Running => false,
-        Status::Ended => false,
-        Status::Trapped(number) => number == 4,
-        Status::Waiting(_, _) => false,
-    }
+    matches!(status, Status::Trapped(4))
 }
 
 // The name of a word, as the lister has it.
+#[tactic(auto, unfolding(listing::specs::Listing::label, isa::specs::Text::bytes))]
 fn put_label(out: &mut [u8], at: usize, word: u32) -> usize
     ensures { wrote result out.new ≡ puts (wrote at out.old) (label word) }
 {
     match isa::read_word(word) {
         Reading::Defined(i) => {
             let name = names::name_of(i);
-            let bytes = name.bytes;
-            let len = name.len;
-            put_text(out, at, &bytes[..len])
+            put_text(out, at, &name.bytes[..name.len])
         }
         Reading::Undefined => put_text(out, at, b"undefined"),
         Reading::NotFitted => put_text(out, at, b"not-fitted"),
@@ -61,18 +55,19 @@ fn put_label(out: &mut [u8], at: usize, word: u32) -> usize
 }
 
 // The name of a row's word.
+#[tactic(auto, unfolding(crate::specs::Lines::name_in, isa::specs::Text::bytes))]
 fn put_name(out: &mut [u8], at: usize, word: u32, status: Status) -> usize
     ensures { wrote result out.new ≡ puts (wrote at out.old) (name_in word status) }
 {
-    let outside = is_outside(status);
-    let absent = (word == 0) & outside;
-    if absent {
-        return put_text(out, at, b"-");
+    if (word == 0) & is_outside(status) {
+        put_text(out, at, b"-")
+    } else {
+        put_label(out, at, word)
     }
-    put_label(out, at, word)
 }
 
 // The issue's number and the thread.
+#[tactic(auto, unfolding(isa::specs::Text::bytes))]
 fn put_numbers(out: &mut [u8], at: usize, issue: u64, thread: u32) -> usize
     ensures { wrote result out.new ≡ puts_all (wrote at out.old) (numbers_parts issue thread) }
 {
@@ -83,6 +78,7 @@ fn put_numbers(out: &mut [u8], at: usize, issue: u64, thread: u32) -> usize
 }
 
 // An address or a word.
+#[tactic(auto, unfolding(thread_lines::specs::Text::counter, isa::specs::Text::bytes))]
 fn put_hex(out: &mut [u8], at: usize, n: u32) -> usize
     ensures { wrote result out.new ≡ puts_all (wrote at out.old) (hex_parts n) }
 {
@@ -92,15 +88,15 @@ fn put_hex(out: &mut [u8], at: usize, n: u32) -> usize
 }
 
 // Puts the line at a place, and answers the place behind it. A part that has no room is left out.
+#[tactic(auto, unfolding(crate::specs::Lines::line_parts, isa::specs::Text::bytes))]
 pub fn put_line(out: &mut [u8], at: usize, issue: u64, row: Row) -> usize
     ensures { wrote result out.new ≡ puts_all (wrote at out.old) (line_parts issue row) }
 {
-    let status = row.status;
     let at = put_numbers(out, at, issue, row.thread as u32);
     let at = put_hex(out, at, row.address);
     let at = put_hex(out, at, row.word);
-    let at = put_name(out, at, row.word, status);
+    let at = put_name(out, at, row.word, row.status);
     let at = put_text(out, at, b" ");
-    let at = put_status(out, at, status);
+    let at = put_status(out, at, row.status);
     put_text(out, at, b"\n")
 }

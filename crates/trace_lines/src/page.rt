@@ -1,5 +1,5 @@
 // The lines of a page of rows.
-ghost use Rattle.std.specs.Prelude.{◌≤◌, ◌≡◌, take};
+ghost use Rattle.std.specs.Prelude.{◌≤◌, ◌≡◌, length, take};
 ghost use Rattle.text.specs.Buffer.{wrote, writes};
 ghost use Rattle.text.specs.Parts.{puts_all};
 ghost use Rattle.trace_lines.specs.Lines.{page_parts, page_text};
@@ -7,16 +7,15 @@ ghost use Rattle.trace_lines.specs.Lines.{page_parts, page_text};
 use crate::line::put_line;
 use trace::{PAGE_ROWS, Row};
 
-// Puts the lines of the first rows one behind the other.
-fn put_page(out: &mut [u8], made: u32, rows: [Row; PAGE_ROWS], count: u32) -> usize
-    requires { count ≤ 64 }
-    ensures { wrote result out.new ≡ puts_all (wrote 0 out.old) (page_parts made (take count rows)) }
+// Puts the lines of rows one behind the other, where so many issues were made before them.
+#[tactic(auto, unfolding(crate::specs::Lines::page_parts))]
+fn put_page(out: &mut [u8], made: u32, rows: &[Row]) -> usize
+    requires { length rows.now ≤ 64 }
+    ensures { wrote result out.new ≡ puts_all (wrote 0 out.old) (page_parts made rows.now) }
 {
-    let mut at: usize = 0;
-    for put in 0..count {
-        let i = put as usize;
-        let row = rows[i];
-        at = put_line(out, at, made as u64 + put as u64 + 1, row);
+    let mut at = 0;
+    for (i, row) in rows.iter().enumerate() {
+        at = put_line(out, at, made as u64 + i as u64 + 1, *row);
     }
     at
 }
@@ -34,9 +33,10 @@ pub fn write_page(
 ) -> usize
     ensures { wrote result out.new ≡ writes out.old 0 (page_text made (take count rows)) }
 {
-    let most = PAGE_ROWS as u32;
-    if most < count {
-        return put_page(out, made, rows, most);
+    let count = count as usize;
+    if PAGE_ROWS < count {
+        put_page(out, made, &rows)
+    } else {
+        put_page(out, made, &rows[..count])
     }
-    put_page(out, made, rows, count)
 }

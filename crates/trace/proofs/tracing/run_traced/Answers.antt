@@ -1,38 +1,44 @@
--- `run_traced` meets its contract: what stays true from turn to turn is `Follows`.
-use Rattle.std.proofs.Common.{length}
+-- What stays true from turn to turn is `Follows`.
+use Rattle.std.proofs.Common.{◌≡◌, ◌<◌, true, ◌&&◌, ltb, length, sym, ◌∙◌, arith, ltb-true}
 use Rattle.machine.specs.State.{state}
-use Rattle.trace.specs.Traced.{least}
-use Rattle.trace.proofs.Following.{place, limited, begins, follows_on, nearer, finishes}
+use Rattle.trace.specs.Traced.{least, is_spent}
+use Rattle.trace.proofs.Following.{place, both, limited, begins, follows_on, nearer, finishes}
 use Rattle.trace.proofs.tracing.run_traced.Goals as goal
 
-pub loop-progress-init : goal.loop-progress-init
-loop-progress-init c =
+pub loop-registers-init : goal.loop-registers-init
+loop-registers-init c =
     let a = c.args in
-    let b = c.begin-progress in
-    begins a.program.now (state a.machine a.registers.now a.memory.now) (least a.budget (length a.rows.now)) a.rows.now b.result b.new.registers b.new.memory b.ensures
+    begins a.program.now (state a.machine a.registers.now a.memory.now) (least a.budget (length a.rows.now)) a.rows.now _ _ _ c.run-run.ensures
 
-pub loop-progress-smaller : goal.loop-progress-smaller
-loop-progress-smaller c =
+pub bounds-rows-run : goal.bounds-rows-run
+bounds-rows-run c =
     let a = c.args in
-    let l = c.loop-progress in
+    let l = c.loop-registers in
+    let go : (is_spent l.run.answer && ltb l.run.issues (least a.budget (length a.rows.now))) ≡ true = rw c.smaller-limit.ensures at (sym c.goes_on.ensures ∙ c.loop-registers-test.true) in
+    let below : l.run.issues < least a.budget (length a.rows.now) = ltb-true _ _ (both (is_spent l.run.answer) (ltb l.run.issues (least a.budget (length a.rows.now))) go).1 in
+    omega (arith, below, (limited a.budget a.rows.now c.ranges.budget.fits).room, l.auto.rows)
+
+pub loop-registers-preserved : goal.loop-registers-preserved
+loop-registers-preserved c =
+    let a = c.args in
+    let l = c.loop-registers in
+    let s = c.advance-step in
+    follows_on a.program.now (state a.machine a.registers.now a.memory.now) (least a.budget (length a.rows.now)) a.rows.now
+    (place l.run l.registers l.memory l.rows) (limited a.budget a.rows.now c.ranges.budget.fits) l.invariant
+    (rw c.smaller-limit.ensures at (sym c.goes_on.ensures ∙ c.loop-registers-test.true)) s.result s.new.registers s.new.memory s.ensures
+
+pub loop-registers-smaller : goal.loop-registers-smaller
+loop-registers-smaller c =
+    let a = c.args in
+    let l = c.loop-registers in
     let s = c.advance-step in
     nearer a.program.now (state a.machine a.registers.now a.memory.now) (least a.budget (length a.rows.now)) a.rows.now
-    (place l.progress l.registers l.memory l.rows) (limited a.budget a.rows.now c.ranges.budget.fits) l.invariant c.loop-progress-test.true
-    s.result s.new.registers s.new.memory s.ensures
-
-pub loop-progress-preserved : goal.loop-progress-preserved
-loop-progress-preserved c =
-    let a = c.args in
-    let l = c.loop-progress in
-    let s = c.advance-step in
-    rw c.put_row.ensures
-    (follows_on a.program.now (state a.machine a.registers.now a.memory.now) (least a.budget (length a.rows.now)) a.rows.now
-    (place l.progress l.registers l.memory l.rows) (limited a.budget a.rows.now c.ranges.budget.fits) l.invariant c.loop-progress-test.true
-    s.result s.new.registers s.new.memory s.ensures)
+    (place l.run l.registers l.memory l.rows) (limited a.budget a.rows.now c.ranges.budget.fits) l.invariant
+    (rw c.smaller-limit.ensures at (sym c.goes_on.ensures ∙ c.loop-registers-test.true)) s.result s.new.registers s.new.memory s.ensures
 
 pub returns : goal.returns
 returns c =
     let a = c.args in
-    let l = c.loop-progress in
+    let l = c.loop-registers in
     finishes a.program.now (state a.machine a.registers.now a.memory.now) a.budget a.rows.now
-    (place l.progress l.registers l.memory l.rows) l.invariant c.loop-progress-test.false
+    (place l.run l.registers l.memory l.rows) l.invariant (rw c.smaller-limit.ensures at (sym c.goes_on.ensures ∙ c.loop-registers-test.false))

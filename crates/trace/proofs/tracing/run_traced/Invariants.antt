@@ -5,10 +5,10 @@ use Rattle.trace.specs.Traced.{least}
 use Rattle.trace.proofs.Following.{Follows, place}
 use Rattle.trace.proofs.tracing.run_traced.Given as goal
 
-abbrev pub invariant-loop-progress : goal.invariant-loop-progress
-invariant-loop-progress l =
+abbrev pub invariant-loop-registers : goal.invariant-loop-registers
+invariant-loop-registers l =
     Follows l.program (state l.fn.machine l.fn.registers l.fn.memory) (least l.budget (length l.fn.rows)) l.fn.rows
-    (place l.progress l.registers l.memory l.rows)
+    (place l.run l.registers l.memory l.rows)
 
-abbrev pub decreases-loop-progress : goal.decreases-loop-progress
-decreases-loop-progress l = least l.budget (length l.fn.rows) - l.progress.run.issues
+abbrev pub decreases-loop-registers : goal.decreases-loop-registers
+decreases-loop-registers l = least l.budget (length l.fn.rows) - l.run.issues
