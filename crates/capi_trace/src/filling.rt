@@ -13,26 +13,22 @@ use thread_entry::Status;
 use trace::{PAGE_ROWS, Row};
 
 // The smaller of a budget and the rows that there is room for.
+#[tactic(auto, unfolding(trace::specs::Traced::least))]
 pub fn smaller(budget: u32, room: usize) -> u32
     ensures { result ≡ least budget room }
 {
     if room < budget as usize {
-        return room as u32;
+        room as u32
+    } else {
+        budget
     }
-    budget
 }
 
 // Whether a thread is running, and fewer issues were made than may be.
 fn goes_on(run: Run, made: u32, limit: u32) -> bool
     ensures { result ≡ (is_spent run.answer && ltb made limit) }
 {
-    let answer = run.answer;
-    match answer {
-        RunAnswer::Stopped => false,
-        RunAnswer::Stuck => false,
-        RunAnswer::Spent => made < limit,
-        RunAnswer::Refused(_) => false,
-    }
+    matches!(run.answer, RunAnswer::Spent) & (made < limit)
 }
 
 // One page more of a run: its rows are put behind those made.
@@ -55,19 +51,16 @@ fn fill_page(
         word: 0,
         status: Status::Idle,
     };
-    let reached = so_far.machine;
     let page = trace::run_page(
         program,
         registers,
         memory,
-        reached,
+        so_far.machine,
         left,
         [blank; PAGE_ROWS],
     );
-    let next = page.run;
-    let rows = page.rows;
-    put_page(numbers, made, rows, next.issues);
-    trace::continued(so_far, next)
+    put_page(numbers, made, &page.rows[..page.run.issues as usize]);
+    trace::continued(so_far, page.run)
 }
 
 // Runs a program with a budget that the list has room for, and puts the numbers of its rows.
