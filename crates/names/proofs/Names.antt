@@ -96,6 +96,8 @@ of-M op =
     ∙ skip 4 5 _ table_c table_c.operations _ refl
     ∙ hit 5 (row_m op).opcode table_m table_m.operations [] op (finds-M op)
 
+pub ruleset named_rows = (of-R, of-Movei, of-J, of-C, of-M)
+
 -- a test that every operation of a table passes holds of each that an opcode finds
 every : {A : Type 0} → (A → Bool) → List A → Bool
 every p [] = true

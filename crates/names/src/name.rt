@@ -124,6 +124,7 @@ fn extend(name: Name, letter: u8) -> Name
 }
 
 // The name of an instruction, whether or not it has a word.
+#[tactic(auto, using(crate::proofs::Names::named_rows))]
 pub fn name_of(i: Instruction) -> Name
     ensures { result ≡ spelled (name_of i) }
 {
