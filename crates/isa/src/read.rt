@@ -1,4 +1,4 @@
-// Words read into instructions.
+// Words read into instructions: by format, since each has fields and tests of its own.
 ghost use Rattle.std.specs.Prelude.{◌≡◌};
 ghost use Rattle.isa.specs.Answer.{reading};
 ghost use Rattle.isa.specs.Read.{as_r, as_i, as_movei, as_j, as_c, as_m, read_r, read_i, read_movei, read_j, read_c, read_m, read};

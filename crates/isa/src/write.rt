@@ -1,6 +1,7 @@
-// Instructions written into words. The tests of opcodes and of R's and I's flags stand as the definition has them, since packing asks for
-// room, and decide nothing: every opcode of R, MOVEI, J, C and M has room, an opcode of R that has none in a word of I has no flags there
-// either, and flags that an operation allows have room.
+// Instructions written into words, by format, since each has fields and tests of its own.
+// The tests of opcodes and of R's and I's flags stand as the definition has them, since packing asks for room, and decide nothing: every
+// opcode of R, MOVEI, J, C and M has room, an opcode of R that has none in a word of I has no flags there either, and flags that an
+// operation allows have room.
 ghost use Rattle.std.specs.Prelude.{◌≡◌};
 ghost use Rattle.isa.specs.Answer.{writing};
 ghost use Rattle.isa.specs.Write.{write_r, write_i, write_movei, write_j, write_c, write_m, write};
