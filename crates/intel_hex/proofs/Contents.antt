@@ -16,6 +16,7 @@ use Rattle.intel_hex.specs.Record.{no_record, data_record, upper_record, end_rec
 use Rattle.intel_hex.specs.Scan.{heading}
 use Rattle.intel_hex.specs.Storing.{pair_bytes}
 use Rattle.intel_hex.specs.Types.{Data}
+use Rattle.std.specs.Prelude.{Some}
 use Rattle.intel_hex.proofs.Pairs.{Written, nothing, byte, written, written-length, written-get}
 use Rattle.intel_hex.proofs.Words.{Small}
 
@@ -49,7 +50,7 @@ pub record DataIn (bs : List ℕ) (a n : ℕ) : Type 0 where
   pub long : length bs ≡ n + 5
   pub is : fields_of bs ≡ data_record a (take n (drop 4 bs))
 
-pub data-in : (bs : List ℕ) (a n : ℕ) → heading (fields_of bs) ≡ Data a n → DataIn bs a n
+pub data-in : (bs : List ℕ) (a n : ℕ) → heading (fields_of bs) ≡ Some (Data a n) → DataIn bs a n
 data-in [] a n e = let z : ◌≡◌ {A = ℕ} 0 1 = cc in absurd (omega arith)
 data-in (x ∷ []) a n e = let z : ◌≡◌ {A = ℕ} 0 1 = cc in absurd (omega arith)
 data-in (x ∷ y ∷ []) a n e = let z : ◌≡◌ {A = ℕ} 0 1 = cc in absurd (omega arith)
@@ -62,7 +63,7 @@ data-in (x ∷ y ∷ v ∷ t ∷ r) a n e =
 
     go : (b c p q s : Bool) → eqb (length r) (x + 1) ≡ b → eqb (total (x ∷ y ∷ v ∷ t ∷ r) % 256) 0 ≡ c → (eqb t 0 && not (eqb x 0)) ≡ p →
         (eqb t 1 && eqb (256 * y + v) 0 && eqb x 0) ≡ q → (eqb t 4 && eqb (256 * y + v) 0 && eqb x 2) ≡ s →
-        heading (cond (b && c) (cond p (data_record (256 * y + v) (take x r)) (cond q end_record (cond s (upper_record (256 * get_or (take x r) 0 0 + get_or (take x r) 1 0)) no_record))) no_record) ≡ Data a n →
+        heading (cond (b && c) (cond p (data_record (256 * y + v) (take x r)) (cond q end_record (cond s (upper_record (256 * get_or (take x r) 0 0 + get_or (take x r) 1 0)) no_record))) no_record) ≡ Some (Data a n) →
         DataIn (x ∷ y ∷ v ∷ t ∷ r) a n
     go false c p q s e1 e2 e3 e4 e5 e = let z : ◌≡◌ {A = ℕ} 0 1 = cc in absurd (omega arith)
     go true false p q s e1 e2 e3 e4 e5 e = let z : ◌≡◌ {A = ℕ} 0 1 = cc in absurd (omega arith)
@@ -137,21 +138,21 @@ colon-data line digits bs m a n text within e q d =
         let z : 1 + i ≡ suc i = omega arith in
         rw z (sym (get_or-take m line (suc i) 0 (omega arith)) ∙ ap (λ (x : List ℕ). get_or x (suc i) 0) e)
 
-pub data-at : (line : List ℕ) (a n : ℕ) → heading (record_of line) ≡ Data a n → DataAt line a n
+pub data-at : (line : List ℕ) (a n : ℕ) → heading (record_of line) ≡ Some (Data a n) → DataAt line a n
 unfolding record_of
 data-at line a n e = go (take t.m line) refl (sym (ap (λ (x : List ℕ). heading (colon_record x)) t.text) ∙ e)
   where
     t : Text line
     t = text_of line
 
-    digits-go : (digits : List ℕ) → take t.m line ≡ 58 ∷ digits → (p : Option (List ℕ)) → pairs digits ≡ p → heading (bytes_record p) ≡ Data a n → DataAt line a n
+    digits-go : (digits : List ℕ) → take t.m line ≡ 58 ∷ digits → (p : Option (List ℕ)) → pairs digits ≡ p → heading (bytes_record p) ≡ Some (Data a n) → DataAt line a n
     digits-go digits f none q e = let z : ◌≡◌ {A = ℕ} 0 1 = cc in absurd (omega arith)
     digits-go digits f (some bs) q e = colon-data line digits bs t.m a n t.text t.within f q (data-in bs a n e)
 
-    colon-go : (c : ℕ) (digits : List ℕ) (b : Bool) → eqb c 58 ≡ b → take t.m line ≡ c ∷ digits → heading (cond b (bytes_record (pairs digits)) no_record) ≡ Data a n → DataAt line a n
+    colon-go : (c : ℕ) (digits : List ℕ) (b : Bool) → eqb c 58 ≡ b → take t.m line ≡ c ∷ digits → heading (cond b (bytes_record (pairs digits)) no_record) ≡ Some (Data a n) → DataAt line a n
     colon-go c digits false q f e = let z : ◌≡◌ {A = ℕ} 0 1 = cc in absurd (omega arith)
     colon-go c digits true q f e = digits-go digits (f ∙ ap (λ (x : ℕ). x ∷ digits) (eqb-true c 58 q)) (pairs digits) refl e
 
-    go : (x : List ℕ) → take t.m line ≡ x → heading (colon_record x) ≡ Data a n → DataAt line a n
+    go : (x : List ℕ) → take t.m line ≡ x → heading (colon_record x) ≡ Some (Data a n) → DataAt line a n
     go [] f e = let z : ◌≡◌ {A = ℕ} 0 1 = cc in absurd (omega arith)
     go (c ∷ digits) f e = colon-go c digits (eqb c 58) refl f e

@@ -1,5 +1,5 @@
 -- The fields of a record, by their places among the digits.
-use Prim.Native.Nat.{ℕ, zero, suc, ◌+◌, ◌-◌, ◌*◌, ◌%◌, ◌≤◌, ◌<◌}
+use Prim.Native.Nat.{ℕ, ◌+◌, ◌-◌, ◌*◌, ◌%◌, ◌≤◌, ◌<◌}
 use mathlib.Core.Bool.{Bool, true, false, ◌&&◌, not, cond}
 use mathlib.Core.List.{List, [], ◌∷◌}
 use mathlib.Core.Option.{Option, none, some}
@@ -8,11 +8,13 @@ use native.Mathlib.Omega.{arith}
 use borrow.Author.Tests.{eq-eqb, ne_eqb, eqb-true}
 use lib.Dec.{eqb}
 use lib.ListN.{length, get_or, take, drop}
-use lib.Seq.{length-take-le}
+use lib.Seq.{length-take-le, take_all}
 use Rattle.intel_hex.specs.Digits.{pair, pairs, total}
 use Rattle.intel_hex.specs.Record.{no_record, data_record, upper_record, end_record, typed, fields_of, bytes_record, colon_record, record_of, without_cr}
 use Rattle.intel_hex.specs.Scan.{heading, heading_at, digested, FieldsRead}
-use Rattle.intel_hex.specs.Types.{Heading, Bad, Data, Base, End, Sum, NoHex}
+use Rattle.intel_hex.specs.Types.{Heading, Data, Base, End}
+use Rattle.std.specs.Prelude.{Some, None}
+use Rattle.std.specs.Prelude as R
 use Rattle.intel_hex.proofs.Pairs.{Written, written, written-length, written-get}
 
 pub fields-short : (bs : List ℕ) → (length bs ≡ get_or bs 0 0 + 5 → ⊥) → fields_of bs ≡ no_record
@@ -41,11 +43,11 @@ typed-heading type address n u ds l h =
     go (eqb type 0 && not (eqb n 0)) (eqb type 1 && eqb address 0 && eqb n 0) (eqb type 4 && eqb address 0 && eqb n 2) (λ e. h (eqb-true n 2 (and_right (eqb type 4 && eqb address 0) (eqb n 2) e)))
   where
     go : (p q r : Bool) → (r ≡ true → u ≡ 256 * get_or ds 0 0 + get_or ds 1 0) →
-        cond p (Data address n) (cond q End (cond r (Base u) Bad))
+        cond p (Some (Data address n)) (cond q (Some End) (cond r (Some (Base u)) None))
         ≡ heading (cond p (data_record address ds) (cond q end_record (cond r (upper_record (256 * get_or ds 0 0 + get_or ds 1 0)) no_record)))
-    go true q r f = ap {B = Heading} (λ m. Data address m) (sym l)
+    go true q r f = ap {B = R.Option Heading} (λ m. Some (Data address m)) (sym l)
     go false true r f = refl
-    go false false true f = ap {B = Heading} (λ m. Base m) (f refl)
+    go false false true f = ap {B = R.Option Heading} (λ m. Some (Base m)) (f refl)
     go false false false f = refl
 
 module _ (digits bs : List ℕ) (w : Written digits bs) (long : 10 ≤ length digits) (n : ℕ) (first : n ≡ pair (get_or digits 0 0) (get_or digits 1 0)) where
@@ -55,10 +57,10 @@ module _ (digits bs : List ℕ) (w : Written digits bs) (long : 10 ≤ length di
   count : n ≡ get_or bs 0 0
   count = let s = size in first ∙ sym (written-get w 0 (omega arith))
 
-  pub wrong-length : (length digits ≡ 10 + 2 * n → ⊥) → Bad ≡ heading (fields_of bs)
+  pub wrong-length : (length digits ≡ 10 + 2 * n → ⊥) → None ≡ heading (fields_of bs)
   wrong-length h = let s = size in let c = count in sym (ap heading (fields-short bs (λ e. h (omega arith))))
 
-  pub wrong-sum : length digits ≡ 10 + 2 * n → (total bs % 256 ≡ 0 → ⊥) → Bad ≡ heading (fields_of bs)
+  pub wrong-sum : length digits ≡ 10 + 2 * n → (total bs % 256 ≡ 0 → ⊥) → None ≡ heading (fields_of bs)
   wrong-sum h z =
       let s = size in
       let c = count in
@@ -97,43 +99,49 @@ module _ (digits bs : List ℕ) (w : Written digits bs) (long : 10 ≤ length di
       data-two (x ∷ a ∷ b ∷ []) n e h = absurd (omega arith)
 
 -- too few digits for a record
-pub few : (digits : List ℕ) → length digits < 10 → Bad ≡ heading (bytes_record (pairs digits))
+pub few : (digits : List ℕ) → length digits < 10 → None ≡ heading (bytes_record (pairs digits))
 few digits h = go (pairs digits) refl
   where
-    go : (p : Option (List ℕ)) → pairs digits ≡ p → Bad ≡ heading (bytes_record p)
+    go : (p : Option (List ℕ)) → pairs digits ≡ p → None ≡ heading (bytes_record p)
     go none q = refl
     go (some bs) q = let l = written-length (written digits bs q) in sym (ap heading (fields-short bs (λ e. omega arith)))
 
 -- what was read of digits with a sum, and of those without
-pub read : (digits : List ℕ) (s : ℕ) (h : Heading) → digested 0 (pairs digits) ≡ Sum s → FieldsRead digits s h → h ≡ heading (bytes_record (pairs digits))
+pub read : (digits : List ℕ) (s : ℕ) (h : R.Option Heading) → digested 0 (pairs digits) ≡ Some s → FieldsRead digits s h → h ≡ heading (bytes_record (pairs digits))
 read digits s h e f = go (pairs digits) refl e
   where
-    go : (p : Option (List ℕ)) → pairs digits ≡ p → digested 0 p ≡ Sum s → h ≡ heading (bytes_record p)
+    go : (p : Option (List ℕ)) → pairs digits ≡ p → digested 0 p ≡ Some s → h ≡ heading (bytes_record p)
     go none q e = let z : ◌≡◌ {A = ℕ} 0 1 = cc in absurd (omega arith)
     go (some bs) q e = let g : (0 + total bs) % 256 ≡ s = cc in f bs q (omega arith)
 
-pub unread : (digits : List ℕ) → digested 0 (pairs digits) ≡ NoHex → Bad ≡ heading (bytes_record (pairs digits))
+pub unread : (digits : List ℕ) → digested 0 (pairs digits) ≡ None → None ≡ heading (bytes_record (pairs digits))
 unread digits e = go (pairs digits) e
   where
-    go : (p : Option (List ℕ)) → digested 0 p ≡ NoHex → Bad ≡ heading (bytes_record p)
+    go : (p : Option (List ℕ)) → digested 0 p ≡ None → None ≡ heading (bytes_record p)
     go none e = refl
     go (some bs) e = let z : ◌≡◌ {A = ℕ} 0 1 = cc in absurd (omega arith)
 
-begins : (line : List ℕ) (n : ℕ) → 0 < n → n ≤ length line → take n line ≡ get_or line 0 0 ∷ take (n - 1) (drop 1 line)
-begins [] n h g = absurd (omega arith)
-begins (c ∷ t) zero h g = absurd (omega arith)
-begins (c ∷ t) (suc m) h g = let e : suc m - 1 ≡ m = omega arith in rw e
+-- a line's text: what begins with a colon, and any other
+pub no-colon : (line text : List ℕ) → text ≡ without_cr line → (get_or text 0 0 ≡ 58 → ⊥) → None ≡ heading (record_of line)
+unfolding record_of
+no-colon line text e other = rw (← e) (go text other)
+  where
+    go : (t : List ℕ) → (get_or t 0 0 ≡ 58 → ⊥) → None ≡ heading (colon_record t)
+    go [] h = refl
+    go (c ∷ t) h = rw (ne_eqb c 58 h)
 
--- a line's text, n bytes of it
-module _ (line : List ℕ) (n : ℕ) (text : without_cr line ≡ take n line) where
-  pub no_text : n ≡ 0 → Bad ≡ heading (record_of line)
-  unfolding record_of
-  no_text z = sym (ap (λ (t : List ℕ). heading (colon_record t)) (text ∙ ap (λ (m : ℕ). take m line) z))
+pub no_text : (line text : List ℕ) → text ≡ without_cr line → length text < 1 → None ≡ heading (record_of line)
+unfolding record_of
+no_text line text e short = rw (← e) (go text short)
+  where
+    go : (t : List ℕ) → length t < 1 → None ≡ heading (colon_record t)
+    go [] h = refl
+    go (c ∷ t) h = absurd (omega arith)
 
-  pub no-colon : 0 < n → n ≤ length line → (get_or line 0 0 ≡ 58 → ⊥) → Bad ≡ heading (record_of line)
-  unfolding record_of
-  no-colon more within other = sym (ap (λ (t : List ℕ). heading (colon_record t)) (text ∙ begins line n more within) ∙ rw (ne_eqb (get_or line 0 0) 58 other))
-
-  pub colon : 0 < n → n ≤ length line → get_or line 0 0 ≡ 58 → heading (bytes_record (pairs (take (n - 1) (drop 1 line)))) ≡ heading (record_of line)
-  unfolding record_of
-  colon more within is = sym (ap (λ (t : List ℕ). heading (colon_record t)) (text ∙ begins line n more within) ∙ rw (eq-eqb (get_or line 0 0) 58 is))
+pub colon : (line text : List ℕ) → text ≡ without_cr line → 1 ≤ length text → get_or text 0 0 ≡ 58 → heading (bytes_record (pairs (take (length text - 1) (drop 1 text)))) ≡ heading (record_of line)
+unfolding record_of
+colon line text e long is = rw (← e) (go text long is)
+  where
+    go : (t : List ℕ) → 1 ≤ length t → get_or t 0 0 ≡ 58 → heading (bytes_record (pairs (take (length t - 1) (drop 1 t)))) ≡ heading (colon_record t)
+    go [] l h = absurd (omega arith)
+    go (c ∷ t) l h = rw (eq-eqb c 58 h, take_all (length (c ∷ t) - 1) t (omega arith))

@@ -1,17 +1,17 @@
 -- Digits and the bytes that they write.
-use Prim.Native.Nat.{ℕ, zero, suc, ◌+◌, ◌*◌, ◌%◌, ◌≤◌, ◌<◌}
+use Prim.Native.Nat.{ℕ, zero, suc, ◌+◌, ◌-◌, ◌*◌, ◌%◌, ◌≤◌, ◌<◌}
 use mathlib.Core.Bool.{Bool, true, false, ◌&&◌, cond}
 use mathlib.Core.List.{List, [], ◌∷◌}
 use mathlib.Core.Option.{Option, none, some}
 use mathlib.Core.Path.{◌≡◌, refl, sym, ap, subst, ◌∙◌}
 use native.Mathlib.Omega.{arith}
-use native.Mathlib.Numerals.{add-one}
 use borrow.Author.Tests.{lt-ltb, le-ltb}
-use lib.ListN.{length, get_or, drop, drop_of_length-le}
-use lib.Seq.{drop-cons}
+use lib.ListN.{length, get_or, take, drop, length-drop}
+use lib.Seq.{take_all}
 use Rattle.intel_hex.specs.Digits.{value, is_hex, pair, with, pairs, total}
 use Rattle.intel_hex.specs.Scan.{digested}
-use Rattle.intel_hex.specs.Types.{Digest, Sum, NoHex}
+use Rattle.std.specs.Prelude.{Some, None}
+use Rattle.std.specs.Prelude as R
 
 -- digits, and the bytes that they write
 pub data Written : List ℕ → List ℕ → Type 0 where
@@ -48,50 +48,48 @@ written-get (byte {h} {l} {t} {bs} d w) (suc k) g =
 pub digested-with : (s v : ℕ) (p : Option (List ℕ)) → digested s (with v p) ≡ digested ((s + v) % 256) p
 unfolding total
 digested-with s v none = refl
-digested-with s v (some bs) = ap {B = Digest} (λ n. Sum n) (omega arith)
+digested-with s v (some bs) = ap {B = R.Option ℕ} (λ n. Some n) (omega arith)
 
-module _ (t : List ℕ) (at : ℕ) where
-  two : at + 1 < length t → drop at t ≡ get_or t at 0 ∷ get_or t (at + 1) 0 ∷ drop (at + 2) t
-  two h =
-      let e : at + 2 ≡ suc (suc at) = omega arith in
-      rw (e, add-one at) (drop-cons t at 0 (omega arith) ∙ ap (λ (l : List ℕ). get_or t at 0 ∷ l) (drop-cons t (suc at) 0 (omega arith)))
+-- two digits read
+pub digest-step : (t : List ℕ) (s x y : ℕ) → 2 ≤ length t → x ≡ value (get_or t 0 0) → y ≡ value (get_or t 1 0) → x ≤ 15 → y ≤ 15 →
+    digested s (pairs t) ≡ digested ((s + 16 * x + y) % 256) (pairs (drop 2 t))
+unfolding pairs
+digest-step [] s x y h p q m n = absurd (omega arith)
+digest-step (a ∷ []) s x y h p q m n = absurd (omega arith)
+digest-step (a ∷ b ∷ t) s x y h p q m n =
+    let e : value a < 16 = omega arith in
+    let f : value b < 16 = omega arith in
+    let g : s + 16 * x + y ≡ s + pair a b = omega arith in
+    rw (lt-ltb _ _ e, lt-ltb _ _ f, g) (digested-with s (pair a b) (pairs t))
 
-  pairs-step : at + 1 < length t → pairs (drop at t) ≡ cond (is_hex (get_or t at 0) && is_hex (get_or t (at + 1) 0)) (with (pair (get_or t at 0) (get_or t (at + 1) 0)) (pairs (drop (at + 2) t))) none
-  unfolding pairs
-  pairs-step h = ap pairs (two h)
+pub digest-first : (t : List ℕ) (s x : ℕ) → 2 ≤ length t → x ≡ value (get_or t 0 0) → 15 < x → digested s (pairs t) ≡ None
+unfolding pairs
+digest-first [] s x h p m = absurd (omega arith)
+digest-first (a ∷ []) s x h p m = absurd (omega arith)
+digest-first (a ∷ b ∷ t) s x h p m = let e : 16 ≤ value a = omega arith in rw (le-ltb _ _ e)
 
-  -- two digits passed
-  pub digest-step : (s x y : ℕ) → at + 1 < length t → x ≡ value (get_or t at 0) → y ≡ value (get_or t (at + 1) 0) → x ≤ 15 → y ≤ 15 →
-      digested s (pairs (drop at t)) ≡ digested ((s + 16 * x + y) % 256) (pairs (drop (at + 2) t))
-  digest-step s x y h p q m n =
-      let e : value (get_or t at 0) < 16 = omega arith in
-      let f : value (get_or t (at + 1) 0) < 16 = omega arith in
-      let g : s + 16 * x + y ≡ s + pair (get_or t at 0) (get_or t (at + 1) 0) = omega arith in
-      rw (pairs-step h, lt-ltb _ _ e, lt-ltb _ _ f, g) (digested-with s (pair (get_or t at 0) (get_or t (at + 1) 0)) (pairs (drop (at + 2) t)))
+pub digest-second : (t : List ℕ) (s y : ℕ) → 2 ≤ length t → y ≡ value (get_or t 1 0) → 15 < y → digested s (pairs t) ≡ None
+unfolding pairs
+digest-second [] s y h p m = absurd (omega arith)
+digest-second (a ∷ []) s y h p m = absurd (omega arith)
+digest-second (a ∷ b ∷ t) s y h p m = let e : 16 ≤ value b = omega arith in rw (le-ltb _ _ e) (both (is_hex a))
+  where
+    both : (q : Bool) → digested s (cond (q && false) (with (pair a b) (pairs t)) none) ≡ None
+    both true = refl
+    both false = refl
 
-  pub digest-first : (s x : ℕ) → at + 1 < length t → x ≡ value (get_or t at 0) → 15 < x → digested s (pairs (drop at t)) ≡ NoHex
-  digest-first s x h p m =
-      let e : 16 ≤ value (get_or t at 0) = omega arith in
-      rw (pairs-step h, le-ltb _ _ e)
+-- a digit left over, and none
+pub digest-odd : (t : List ℕ) (s : ℕ) → length t ≡ 1 → digested s (pairs t) ≡ None
+unfolding pairs
+digest-odd [] s h = absurd (omega arith)
+digest-odd (a ∷ []) s h = refl
+digest-odd (a ∷ b ∷ t) s h = absurd (omega arith)
 
-  pub digest-second : (s y : ℕ) → at + 1 < length t → y ≡ value (get_or t (at + 1) 0) → 15 < y → digested s (pairs (drop at t)) ≡ NoHex
-  digest-second s y h p m =
-      let e : 16 ≤ value (get_or t (at + 1) 0) = omega arith in
-      rw (pairs-step h, le-ltb _ _ e) (both (is_hex (get_or t at 0)) (pair (get_or t at 0) (get_or t (at + 1) 0)) (pairs (drop (at + 2) t)))
-    where
-      both : (b : Bool) (v : ℕ) (p : Option (List ℕ)) → digested s (cond (b && false) (with v p) none) ≡ NoHex
-      both true v p = refl
-      both false v p = refl
+pub digest-end : (t : List ℕ) (s : ℕ) → s < 256 → length t ≡ 0 → digested s (pairs t) ≡ Some s
+unfolding pairs total
+digest-end [] s m h = ap {B = R.Option ℕ} (λ n. Some n) (omega arith)
+digest-end (a ∷ t) s m h = absurd (omega arith)
 
-  -- a digit left over, and none
-  pub digest-odd : (s : ℕ) → at + 1 ≡ length t → digested s (pairs (drop at t)) ≡ NoHex
-  unfolding pairs
-  digest-odd s h =
-      let e : drop at t ≡ get_or t at 0 ∷ [] = drop-cons t at 0 (omega arith) ∙ ap (λ (l : List ℕ). get_or t at 0 ∷ l) (drop_of_length-le t {i = suc at} (omega arith)) in
-      ap (λ (l : List ℕ). digested s (pairs l)) e
-
-  pub digest-end : (s : ℕ) → s < 256 → at ≡ length t → digested s (pairs (drop at t)) ≡ Sum s
-  unfolding pairs total
-  digest-end s m h =
-      let e : drop at t ≡ [] = drop_of_length-le t {i = at} (omega arith) in
-      ap (λ (l : List ℕ). digested s (pairs l)) e ∙ ap {B = Digest} (λ n. Sum n) (omega arith)
+-- what is behind two digits
+pub behind-two : (t : List ℕ) → take (length t - 2) (drop 2 t) ≡ drop 2 t
+behind-two t = take_all (length t - 2) (drop 2 t) (omega (arith, length-drop 2 t))

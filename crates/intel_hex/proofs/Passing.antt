@@ -11,10 +11,15 @@ use Rattle.intel_hex.specs.File.{reading, stopped, placed, misplaced, taken, ste
 use Rattle.program.specs.Program.{bad_bytes, program_in}
 use Rattle.program.proofs.Sizes.{whole as sized}
 use Rattle.intel_hex.specs.Record.{Line, lines_from, lines, Record, no_record, data_record, upper_record, end_record, record_in, record_of}
-use Rattle.intel_hex.specs.Scan.{heading, line_length, judged}
+use Rattle.intel_hex.specs.Scan.{heading, line_length, Bytes, Refused, judged}
 use Rattle.intel_hex.specs.Import.{imported, import_image}
 use Rattle.intel_hex.specs.Storing.{store_all, pair_bytes, words_after, place_after, DataFits, RecordFits, ImageFits}
-use Rattle.intel_hex.specs.Types.{Heading, Place, Bytes, Refused, Words, ImportRefused}
+use Rattle.intel_hex.specs.Types.{Heading, Place}
+use Rattle.std.specs.Prelude.{Option, Ok, Err}
+use Rattle.answer.specs.Refusal.{row_of}
+use Rattle.answer.specs.declared.refusal.RefusedLine.{RefusedLine}
+use Rattle.answer.specs.declared.refusal.Refusal.{Refusal}
+use Rattle.answer.specs.declared.refusal.Refusal.TheVariants.{Program, ShortBuffer}
 use Rattle.intel_hex.proofs.Scanning.{stays, behind-end, unended, length-placed, or-false, line_step}
 use Rattle.intel_hex.proofs.Words.{Small}
 use Rattle.intel_hex.proofs.Stored.{Holding, hold-none, hold-placed, hold-end, small-placed}
@@ -137,8 +142,8 @@ module _ (text l₀ : List ℕ) (p : Place) (l : List ℕ) (at : ℕ) (s : Stori
             let z = s.holds.size in
             record { rises = omega arith; room = omega arith; long = d.long }
 
-    pub fits : (h : Heading) → h ≡ heading (record_of (take (e - at) (drop at text))) → RecordFits (take (e - at) (drop at text)) h p l
-    fits h q = subst (λ (x : Heading). RecordFits (take (e - at) (drop at text)) x p l) (sym q) (record-fits (record_of (take (e - at) (drop at text))) refl)
+    pub fits : (h : Option Heading) → h ≡ heading (record_of (take (e - at) (drop at text))) → RecordFits (take (e - at) (drop at text)) h p l
+    fits h q = subst (λ (x : Option Heading). RecordFits (take (e - at) (drop at text)) x p l) (sym q) (record-fits (record_of (take (e - at) (drop at text))) refl)
 
     record-goes : (r : Record) → record_of (take (e - at) (drop at text)) ≡ r →
         Storing text l₀ (place_after (heading r) p) (words_after (take (e - at) (drop at text)) (heading r) p l) (e + 1)
@@ -181,34 +186,37 @@ module _ (text l₀ : List ℕ) (p : Place) (l : List ℕ) (at : ℕ) (s : Stori
               small = small-placed s.bytes ds from s.small small;
             }
 
-    pub goes : (h : Heading) (q : Place) (m : List ℕ) → h ≡ heading (record_of (take (e - at) (drop at text))) → q ≡ place_after h p → m ≡ words_after (take (e - at) (drop at text)) h p l → Storing text l₀ q m (e + 1)
+    pub goes : (h : Option Heading) (q : Place) (m : List ℕ) → h ≡ heading (record_of (take (e - at) (drop at text))) → q ≡ place_after h p → m ≡ words_after (take (e - at) (drop at text)) h p l → Storing text l₀ q m (e + 1)
     goes h q m i j k =
-        subst (λ (x : Place). Storing text l₀ x m (e + 1)) (sym (j ∙ ap (λ (y : Heading). place_after y p) i))
-        (subst (λ (x : List ℕ). Storing text l₀ (place_after (heading (record_of (take (e - at) (drop at text)))) p) x (e + 1)) (sym (k ∙ ap (λ (y : Heading). words_after (take (e - at) (drop at text)) y p l) i))
+        subst (λ (x : Place). Storing text l₀ x m (e + 1)) (sym (j ∙ ap (λ (y : Option Heading). place_after y p) i))
+        (subst (λ (x : List ℕ). Storing text l₀ (place_after (heading (record_of (take (e - at) (drop at text)))) p) x (e + 1)) (sym (k ∙ ap (λ (y : Option Heading). words_after (take (e - at) (drop at text)) y p l) i))
         (record-goes (record_of (take (e - at) (drop at text))) refl))
 
 pub same-image : {i : Image} {a b : List ℕ} → i ≡ image a → i ≡ image b → a ≡ b
 same-image e f = cc
 
 -- what import answers and leaves, by what was judged
-pub import-refused : (i : Image) (buffer : List ℕ) (k n : ℕ) → judged i ≡ Refused k n → imported (ImportRefused k n) buffer ≡ import_image i buffer
-import-refused (image bs) buffer k n e = let z : ◌≡◌ {A = ℕ} 0 1 = cc in absurd (omega arith)
-import-refused (no_image k n) buffer x y e = let f : k ≡ x = cc in let g : n ≡ y = cc in rw (f, g)
+pub import-refused : (i : Image) (buffer : List ℕ) (e : RefusedLine) → judged i ≡ Refused (row_of e.refusal) e.line → imported (Err e) buffer ≡ import_image i buffer
+import-refused (image bs) buffer e j = let z : ◌≡◌ {A = ℕ} 0 1 = cc in absurd (omega arith)
+import-refused (no_image k n) buffer e j = let f : k ≡ row_of e.refusal = cc in let g : n ≡ e.line = cc in rw (f, g)
 
-pub import-size : (i : Image) (buffer : List ℕ) (n : ℕ) → judged i ≡ Bytes n → bad_bytes n ≡ true → imported (ImportRefused 1 0) buffer ≡ import_image i buffer
+abbrev pub unplaced : Refusal → RefusedLine
+unplaced refusal = record { refusal = refusal; line = 0 }
+
+pub import-size : (i : Image) (buffer : List ℕ) (n : ℕ) → judged i ≡ Bytes n → bad_bytes n ≡ true → imported (Err (unplaced Program)) buffer ≡ import_image i buffer
 import-size (image bs) buffer n e t = let f : length bs ≡ n = cc in rw (f, t)
 import-size (no_image k m) buffer n e t = let z : ◌≡◌ {A = ℕ} 0 1 = cc in absurd (omega arith)
 
-pub import-short : (i : Image) (buffer : List ℕ) (n : ℕ) → judged i ≡ Bytes n → bad_bytes n ≡ false → length buffer < n / 4 → imported (ImportRefused 18 0) buffer ≡ import_image i buffer
+pub import-short : (i : Image) (buffer : List ℕ) (n : ℕ) → judged i ≡ Bytes n → bad_bytes n ≡ false → length buffer < n / 4 → imported (Err (unplaced ShortBuffer)) buffer ≡ import_image i buffer
 import-short (image bs) buffer n e t h = let f : length bs ≡ n = cc in rw (f, t, lt-ltb (length buffer) (n / 4) h)
 import-short (no_image k m) buffer n e t h = let z : ◌≡◌ {A = ℕ} 0 1 = cc in absurd (omega arith)
 
 pub import-whole : (i : Image) (buffer l : List ℕ) (n : ℕ) → judged i ≡ Bytes n → bad_bytes n ≡ false → n / 4 ≤ length buffer →
-    ((b : List ℕ) → i ≡ image b → l ≡ program_in b ++ drop (length b / 4) buffer) → imported (Words (n / 4)) l ≡ import_image i buffer
+    ((b : List ℕ) → i ≡ image b → l ≡ program_in b ++ drop (length b / 4) buffer) → imported (Ok (n / 4)) l ≡ import_image i buffer
 import-whole (image bs) buffer l n e t h s =
     let f : length bs ≡ n = cc in
     let g = s bs refl in
-    rw (f, t, le-ltb (length buffer) (n / 4) h) (ap (λ (x : List ℕ). imported (Words (n / 4)) x) (rw f at g))
+    rw (f, t, le-ltb (length buffer) (n / 4) h) (ap (λ (x : List ℕ). imported (Ok (n / 4)) x) (rw f at g))
 import-whole (no_image k m) buffer l n e t h s = let z : ◌≡◌ {A = ℕ} 0 1 = cc in absurd (omega arith)
 
 pub image-fits : (text l : List ℕ) (n : ℕ) → judged (image_of text) ≡ Bytes n → bad_bytes n ≡ false → n / 4 ≤ length l → ImageFits text l

@@ -10,8 +10,12 @@ use lib.ListN.{length, take, drop, replicate, length-append, length-replicate, l
 use lib.Seq.{drop-drop, length-take-le}
 use Rattle.intel_hex.specs.File.{Progress, reading, stopped, placed, misplaced, taken, steps, start, finish, image_of}
 use Rattle.intel_hex.specs.Record.{Line, line, lines_from, lines, Record, no_record, data_record, upper_record, end_record, record_of, without_cr}
-use Rattle.intel_hex.specs.Scan.{heading, line_length, cursor, advanced, judged}
-use Rattle.intel_hex.specs.Types.{Cursor, Next, Stopped, Judged, Bytes, Refused}
+use Rattle.intel_hex.specs.Scan.{heading, line_length, cursor, advanced, Judged, Bytes, Refused, judged}
+use Rattle.intel_hex.specs.Types.{Cursor}
+use Rattle.std.specs.Prelude.{Ok, Err}
+use Rattle.answer.specs.Refusal.{row_of}
+use Rattle.answer.specs.declared.refusal.Refusal.{Refusal}
+use Rattle.answer.specs.declared.refusal.Refusal.TheVariants.{HexRecord, HexOrder}
 use Rattle.intel_hex.proofs.Lines.{cut, uncut}
 
 -- a refusal stays
@@ -49,16 +53,16 @@ or-false true b e = e
 or-false false b e = refl
 
 -- what a record makes of a file read so far, by what the code makes of its heading
-pub record-stops : (n u k : ℕ) (bs : List ℕ) (r : Record) → advanced (cursor u (length bs) false) (heading r) ≡ Stopped k → taken n u bs r ≡ stopped k n
+pub record-stops : (n u : ℕ) (k : Refusal) (bs : List ℕ) (r : Record) → advanced (cursor u (length bs) false) (heading r) ≡ Err k → taken n u bs r ≡ stopped (row_of k) n
 unfolding advanced
-record-stops n u k bs no_record e = ap (λ (x : ℕ). stopped x n) (cc)
+record-stops n u k bs no_record e = let f : HexRecord ≡ k = cc in ap (λ (x : Refusal). stopped (row_of x) n) f
 record-stops n u k bs end_record e = let z : ◌≡◌ {A = ℕ} 0 1 = cc in absurd (omega arith)
 record-stops n u k bs (upper_record h) e = let z : ◌≡◌ {A = ℕ} 0 1 = cc in absurd (omega arith)
 record-stops n u k bs (data_record a ds) e = go (misplaced (length bs) u a (length ds)) e
   where
-    go : (b : Bool) → cond b (Stopped 16) (Next (cursor u (65536 * u + a + length ds) false)) ≡ Stopped k →
-        cond b (stopped 16 n) (reading (n + 1) u (placed bs (65536 * u + a) ds) false) ≡ stopped k n
-    go true e = ap (λ (x : ℕ). stopped x n) (cc)
+    go : (b : Bool) → cond b (Err HexOrder) (Ok (cursor u (65536 * u + a + length ds) false)) ≡ Err k →
+        cond b (stopped 16 n) (reading (n + 1) u (placed bs (65536 * u + a) ds) false) ≡ stopped (row_of k) n
+    go true e = let f : HexOrder ≡ k = cc in ap (λ (x : Refusal). stopped (row_of x) n) f
     go false e = let z : ◌≡◌ {A = ℕ} 0 1 = cc in absurd (omega arith)
 
 -- a file read on
@@ -67,14 +71,14 @@ pub record Goes (p : Progress) (n : ℕ) (c : Cursor) : Type 0 where
   pub read : p ≡ reading n c.upper bytes c.ended
   pub top : c.top ≡ length bytes
 
-pub record-goes : (n u : ℕ) (bs : List ℕ) (r : Record) (c : Cursor) → advanced (cursor u (length bs) false) (heading r) ≡ Next c → Goes (taken n u bs r) (n + 1) c
+pub record-goes : (n u : ℕ) (bs : List ℕ) (r : Record) (c : Cursor) → advanced (cursor u (length bs) false) (heading r) ≡ Ok c → Goes (taken n u bs r) (n + 1) c
 unfolding advanced
 record-goes n u bs no_record c e = let z : ◌≡◌ {A = ℕ} 0 1 = cc in absurd (omega arith)
 record-goes n u bs end_record c e = let f : cursor u (length bs) true ≡ c = cc in rw (← f) (record { bytes = bs; read = refl; top = refl })
 record-goes n u bs (upper_record h) c e = let f : cursor h (length bs) false ≡ c = cc in rw (← f) (record { bytes = bs; read = refl; top = refl })
 record-goes n u bs (data_record a ds) c e = go (misplaced (length bs) u a (length ds)) refl e
   where
-    go : (b : Bool) → misplaced (length bs) u a (length ds) ≡ b → cond b (Stopped 16) (Next (cursor u (65536 * u + a + length ds) false)) ≡ Next c →
+    go : (b : Bool) → misplaced (length bs) u a (length ds) ≡ b → cond b (Err HexOrder) (Ok (cursor u (65536 * u + a + length ds) false)) ≡ Ok c →
         Goes (cond b (stopped 16 n) (reading (n + 1) u (placed bs (65536 * u + a) ds) false)) (n + 1) c
     go true q e = let z : ◌≡◌ {A = ℕ} 0 1 = cc in absurd (omega arith)
     go false q e =
@@ -147,13 +151,13 @@ module _ (text : List ℕ) (c : Cursor) (n at : ℕ) (j : Judging text c n at) w
     kept : advanced (cursor c.upper (length j.bytes) false) (heading (record_of (take (e - at) (drop at text)))) ≡ advanced c (heading (record_of (take (e - at) (drop at text))))
     kept = ap (λ (d : Cursor). advanced d (heading (record_of (take (e - at) (drop at text))))) (sym (ap (λ (m : ℕ). cursor c.upper m c.ended) j.top ∙ ap (λ (b : Bool). cursor c.upper (length j.bytes) b) fresh))
 
-    pub judged-stops : (k : ℕ) → advanced c (heading (record_of (take (e - at) (drop at text)))) ≡ Stopped k → Refused k n ≡ judged (image_of text)
+    pub judged-stops : (k : Refusal) → advanced c (heading (record_of (take (e - at) (drop at text)))) ≡ Err k → Refused (row_of k) n ≡ judged (image_of text)
     unfolding image_of
     judged-stops k s =
-        sym (ap (λ (p : Progress). judged (finish p)) (stepped ∙ ap (λ (p : Progress). steps p (lines (drop (e + 1) text))) (record-stops n c.upper k j.bytes (record_of (take (e - at) (drop at text))) (kept ∙ s)) ∙ stays k n _))
+        sym (ap (λ (p : Progress). judged (finish p)) (stepped ∙ ap (λ (p : Progress). steps p (lines (drop (e + 1) text))) (record-stops n c.upper k j.bytes (record_of (take (e - at) (drop at text))) (kept ∙ s)) ∙ stays (row_of k) n _))
 
     -- a record is not blank
-    passed : (next : Cursor) → advanced c (heading (record_of (take (e - at) (drop at text)))) ≡ Next next → at < e
+    passed : (next : Cursor) → advanced c (heading (record_of (take (e - at) (drop at text)))) ≡ Ok next → at < e
     unfolding advanced
     passed next s = go (ltb at e) refl
       where
@@ -165,7 +169,7 @@ module _ (text : List ℕ) (c : Cursor) (n at : ℕ) (j : Judging text c n at) w
             let z : ◌≡◌ {A = ℕ} 0 1 = cc in
             absurd (omega arith)
 
-    pub judging : (next : Cursor) → advanced c (heading (record_of (take (e - at) (drop at text)))) ≡ Next next → Judging text next (n + 1) (e + 1)
+    pub judging : (next : Cursor) → advanced c (heading (record_of (take (e - at) (drop at text)))) ≡ Ok next → Judging text next (n + 1) (e + 1)
     unfolding advanced
     judging next s =
         let g = record-goes n c.upper j.bytes (record_of (take (e - at) (drop at text))) next (kept ∙ s) in

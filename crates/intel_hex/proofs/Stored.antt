@@ -13,6 +13,7 @@ use Rattle.intel_hex.specs.File.{placed}
 use Rattle.program.specs.Program.{program_in}
 use Rattle.intel_hex.specs.Storing.{powers, put_byte, store_all, pair_bytes, DataFits, RecordFits}
 use Rattle.intel_hex.specs.Types.{Heading, Data, Place}
+use Rattle.std.specs.Prelude.{Option, Some}
 use Rattle.intel_hex.proofs.Words.{Small, word_at, length-words, words-get}
 
 pub length-put : (l : List ℕ) (a b : ℕ) → length (put_byte l a b) ≡ length l
@@ -216,9 +217,9 @@ hold-end l₀ bs l m h e room =
         let i : m + (k - m) ≡ k = omega arith in
         h.kept k (omega arith) ∙ sym (ap (λ (n : ℕ). get_or (program_in bs ++ drop m l₀) n 0) (sym f) ∙ get_or-append-add (program_in bs) (drop m l₀) (k - m) 0 ∙ get_or-drop m l₀ (k - m) 0 ∙ ap (λ (n : ℕ). get_or l₀ n 0) i)
 
-pub fits-data : (line : List ℕ) (h : Heading) (p : Place) (l : List ℕ) (a n : ℕ) → RecordFits line h p l → h ≡ Data a n → DataFits line a n p l
+pub fits-data : (line : List ℕ) (h : Option Heading) (p : Place) (l : List ℕ) (a n : ℕ) → RecordFits line h p l → h ≡ Some (Data a n) → DataFits line a n p l
 unfolding RecordFits
-fits-data line h p l a n f e = subst (λ (x : Heading). RecordFits line x p l) e f
+fits-data line h p l a n f e = subst (λ (x : Option Heading). RecordFits line x p l) e f
 
 pub length-store : (l : List ℕ) (a : ℕ) (bs : List ℕ) → length (store_all l a bs) ≡ length l
 unfolding store_all

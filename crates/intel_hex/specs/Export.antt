@@ -1,10 +1,10 @@
 -- What export writes (document 02, T-06): "Export uses 16 data bytes a record, the last may be shorter, with LF and no type 04".
-use Rattle.std.specs.Prelude.{ℕ, zero, suc, ◌+◌, ◌-◌, ◌*◌, ◌/◌, ◌%◌, cond, List, [], ◌∷◌, ◌++◌, ltb, length, take, drop}
+use Rattle.std.specs.Prelude.{ℕ, zero, suc, ◌+◌, ◌-◌, ◌*◌, ◌/◌, ◌%◌, cond, List, [], ◌∷◌, ◌++◌, ltb, length, take, drop, Result, Ok, Err}
 use Rattle.answer.specs.Answer.{Answer, given, refused, bad-program, short-buffer}
-use Rattle.answer.specs.Refusal.{bad_program}
+use Rattle.answer.specs.Refusal.{bad_program, row_of}
+use Rattle.answer.specs.declared.refusal.Refusal.{Refusal}
 use Rattle.intel_hex.specs.Digits.{hexes, total}
 use Rattle.intel_hex.specs.Program.{program_bytes}
-use Rattle.intel_hex.specs.Types.{Exported, Length, ExportRefused}
 
 -- what makes the sum of all bytes a multiple of 256
 abbrev pub checksum : ℕ → ℕ
@@ -37,9 +37,9 @@ abbrev pub exports : Answer ℕ → List ℕ → Export
 exports answer text = record { answer = answer; text = text }
 
 -- the same of the code's answer
-abbrev pub exported : Exported → List ℕ → Export
-exported (Length n) text = exports (given n) text
-exported (ExportRefused number) text = exports (refused number) text
+abbrev pub exported : Result ℕ Refusal → List ℕ → Export
+exported (Ok n) text = exports (given n) text
+exported (Err refusal) text = exports (refused (row_of refusal)) text
 
 -- 1 for the program's length, "then 18 buffer too short, on export too": a program, and a buffer for the text. A refusal changes nothing,
 -- and places of the buffer past the text keep their content

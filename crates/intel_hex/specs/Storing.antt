@@ -1,8 +1,8 @@
 -- Bytes stored into words one by one: what the code of the second pass does.
-use Rattle.std.specs.Prelude.{ℕ, zero, suc, ◌+◌, ◌*◌, ◌/◌, ◌%◌, ◌-◌, ◌≤◌, List, [], ◌∷◌, ◌++◌, ◌≡◌, length, get_or, set, drop, replicate}
+use Rattle.std.specs.Prelude.{ℕ, zero, suc, ◌+◌, ◌*◌, ◌/◌, ◌%◌, ◌-◌, ◌≤◌, List, [], ◌∷◌, ◌++◌, ◌≡◌, length, get_or, set, drop, replicate, Option, Some, None}
 use Rattle.intel_hex.specs.File.{image, image_of}
 use Rattle.program.specs.Program.{program_in}
-use Rattle.intel_hex.specs.Types.{Heading, Bad, Data, Base, End, Place}
+use Rattle.intel_hex.specs.Types.{Heading, Data, Base, End, Place}
 use Rattle.intel_hex.specs.Digits.{pair}
 
 -- what a word is divided by for its i-th byte
@@ -23,18 +23,18 @@ pair_bytes digits k zero = []
 pair_bytes digits k (suc n) = pair (get_or digits (k + k) 0) (get_or digits (k + k + 1) 0) % 256 ∷ pair_bytes digits (k + 1) n
 
 -- what is stored of a record: its bytes, and zeros in the gap before them
-unfoldable pub words_after : List ℕ → Heading → Place → List ℕ → List ℕ
-words_after line Bad p l = l
-words_after line End p l = l
-words_after line (Base upper) p l = l
-words_after line (Data address n) p l =
+unfoldable pub words_after : List ℕ → Option Heading → Place → List ℕ → List ℕ
+words_after line None p l = l
+words_after line (Some End) p l = l
+words_after line (Some (Base upper)) p l = l
+words_after line (Some (Data address n)) p l =
     store_all (store_all l p.top (replicate (65536 * p.upper + address - p.top) 0)) (65536 * p.upper + address) (pair_bytes (drop 1 line) 4 n)
 
-unfoldable pub place_after : Heading → Place → Place
-place_after Bad p = p
-place_after End p = p
-place_after (Base upper) p = record { upper = upper; top = p.top }
-place_after (Data address n) p = record { upper = p.upper; top = 65536 * p.upper + address + n }
+unfoldable pub place_after : Option Heading → Place → Place
+place_after None p = p
+place_after (Some End) p = p
+place_after (Some (Base upper)) p = record { upper = upper; top = p.top }
+place_after (Some (Data address n)) p = record { upper = p.upper; top = 65536 * p.upper + address + n }
 
 -- a record that can be stored
 pub record DataFits (line : List ℕ) (address n : ℕ) (p : Place) (l : List ℕ) : Type 0 where
@@ -42,11 +42,11 @@ pub record DataFits (line : List ℕ) (address n : ℕ) (p : Place) (l : List �
   pub room : 65536 * p.upper + address + n ≤ 4 * length l
   pub long : n + n + 11 ≤ length line
 
-unfoldable pub RecordFits : List ℕ → Heading → Place → List ℕ → Type 0
-RecordFits line Bad p l = Unit
-RecordFits line End p l = Unit
-RecordFits line (Base upper) p l = Unit
-RecordFits line (Data address n) p l = DataFits line address n p l
+unfoldable pub RecordFits : List ℕ → Option Heading → Place → List ℕ → Type 0
+RecordFits line None p l = Unit
+RecordFits line (Some End) p l = Unit
+RecordFits line (Some (Base upper)) p l = Unit
+RecordFits line (Some (Data address n)) p l = DataFits line address n p l
 
 -- a file that says a program, for which there is room
 pub record ImageFits (text l : List ℕ) : Type 0 where

@@ -15,32 +15,23 @@ pub fn value_of(c: u8) -> u8
     16
 }
 
-// The sum of the bytes that digits write, modulo 256.
-#[derive(Clone, Copy)]
-pub enum Digest {
-    Sum(u32),
-    NoHex,
-}
-
-pub fn sum_of(digits: &[u8]) -> Digest
+// The sum of the bytes that digits write, modulo 256; none where their number is odd or one is no digit.
+pub fn sum_of(digits: &[u8]) -> Option<u32>
     ensures { result ≡ digested 0 (pairs digits.now) }
 {
-    let mut sum: u32 = 0;
-    let mut at = 0;
-    while 1 < digits.len() - at {
-        let high = value_of(digits[at]);
-        let low = value_of(digits[at + 1]);
-        if 15 < high {
-            return Digest::NoHex;
+    let mut sum = 0;
+    let mut rest = digits;
+    while let [high, low, behind @ ..] = rest {
+        let high = value_of(*high);
+        let low = value_of(*low);
+        if 15 < high || 15 < low {
+            return None;
         }
-        if 15 < low {
-            return Digest::NoHex;
-        }
-        sum = (sum + 16 * (high as u32) + (low as u32)) % 256;
-        at += 2;
+        sum = (sum + 16 * u32::from(high) + u32::from(low)) % 256;
+        rest = behind;
     }
-    if at < digits.len() {
-        return Digest::NoHex;
+    if !rest.is_empty() {
+        return None;
     }
-    Digest::Sum(sum)
+    Some(sum)
 }

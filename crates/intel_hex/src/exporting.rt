@@ -9,28 +9,11 @@ ghost use Rattle.intel_hex.specs.Export.{heads, checksum, record_text, body, exp
 ghost use Rattle.intel_hex.specs.Scan.{text_length};
 
 use crate::place::POWERS;
-use answer::PROGRAM_WORDS;
+use answer::{PROGRAM_WORDS, Refusal};
+use text::digit_of;
 
 // The length of the longest text: 12 bytes a record, the end record too, and two for each of four bytes a word.
 pub const LONGEST: usize = 12 * ((PROGRAM_WORDS + 3) / 4) + 8 * PROGRAM_WORDS + 12;
-
-// How many bytes a text has, or the number that a program is refused with.
-#[derive(Clone, Copy)]
-pub enum Exported {
-    Length(usize),
-    Refused(u8),
-}
-
-// The digit of a number below 16.
-fn digit_of(n: u32) -> u8
-    requires { n < 16 }
-    ensures { result ≡ digit n }
-{
-    if n < 10 {
-        return (48 + n) as u8;
-    }
-    (55 + n) as u8
-}
 
 // Puts a byte as two digits at a place, and answers the place behind them.
 fn put_byte(out: &mut [u8], at: usize, b: u32) -> usize
@@ -56,10 +39,8 @@ fn sum_from(words: &[u32], from: usize, n: usize, sum: u32) -> u32
     ensures { result ≡ (sum + total (take n (drop from (program_bytes words.now)))) % 256 }
 {
     let mut s = sum % 256;
-    let mut i = 0;
-    while i < n {
+    for i in 0..n {
         s = (s + program_byte(words, from + i)) % 256;
-        i += 1;
     }
     s
 }
@@ -70,10 +51,8 @@ fn put_bytes(words: &[u32], from: usize, n: usize, out: &mut [u8], at: usize) ->
     ensures { wrote result out.new ≡ writes out.old at (hexes (take n (drop from (program_bytes words.now)))) }
 {
     let mut p = at;
-    let mut i = 0;
-    while i < n {
+    for i in 0..n {
         p = put_byte(out, p, program_byte(words, from + i));
-        i += 1;
     }
     p
 }
@@ -86,7 +65,7 @@ fn head_of(n: u32, address: u32, kind: u32) -> [u8; 9]
     let high = address / 256;
     let low = address % 256;
     [
-        58,
+        b':',
         digit_of(n / 16),
         digit_of(n % 16),
         digit_of(high / 16),
@@ -121,16 +100,6 @@ fn put_record(words: &[u32], kind: u32, from: usize, n: usize, out: &mut [u8], a
     text::put_text(out, p, &tail)
 }
 
-// How many bytes the next record has, of those that are left.
-fn record_size(left: usize) -> usize
-    ensures { (result ≤ 16) × (result ≤ left) × ((16 ≤ result) ⊎ (left ≤ result)) }
-{
-    if left < 16 {
-        return left;
-    }
-    16
-}
-
 // Puts a program's records, and answers the place behind them.
 fn put_body(words: &[u32], out: &mut [u8]) -> usize
     requires { (length words.now ≤ program_words) × (text_length (length words.now) ≤ length out.old) }
@@ -138,28 +107,24 @@ fn put_body(words: &[u32], out: &mut [u8]) -> usize
 {
     let count = (words.len() + 3) / 4;
     let mut p = 0;
-    let mut k = 0;
-    while k < count {
-        let n = record_size(4 * words.len() - 16 * k);
+    for k in 0..count {
+        let n = (4 * words.len() - 16 * k).min(16);
         p = put_record(words, 0, 16 * k, n, out, p);
-        k += 1;
     }
     p
 }
 
 // Puts the text of a program at the start of the buffer, and answers its length.
-pub fn export(words: &[u32], text: &mut [u8]) -> Exported
+pub fn export(words: &[u32], text: &mut [u8]) -> Result<usize, Refusal>
     ensures { exported result text.new ≡ export_into words.now text.old }
 {
-    let refused = answer::bad_program(words.len());
-    if refused {
-        return Exported::Refused(1);
+    if answer::bad_program(words.len()) {
+        return Err(Refusal::Program);
     }
     let n = words.len();
     if text.len() < 12 * ((n + 3) / 4) + 8 * n + 12 {
-        return Exported::Refused(18);
+        return Err(Refusal::ShortBuffer);
     }
     let p = put_body(words, text);
-    let p = put_record(words, 1, 0, 0, text, p);
-    Exported::Length(p)
+    Ok(put_record(words, 1, 0, 0, text, p))
 }

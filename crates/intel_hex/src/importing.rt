@@ -2,32 +2,27 @@
 ghost use Rattle.std.specs.Prelude.{◌≡◌};
 ghost use Rattle.intel_hex.specs.Import.{imported, import_into};
 
-use crate::scan::{Judged, judge};
+use crate::scan::judge;
 use crate::storing::store;
-
-// How many words a file says, or the number that it is refused with and the line, 0 where none is meant.
-#[derive(Clone, Copy)]
-pub enum Imported {
-    Words(usize),
-    Refused(u8, usize),
-}
+use answer::{Refusal, RefusedLine};
 
 // Puts the words of a file at the start of the buffer, and answers their number.
-pub fn import(text: &[u8], words: &mut [u32]) -> Imported
+pub fn import(text: &[u8], words: &mut [u32]) -> Result<usize, RefusedLine>
     ensures { imported result words.new ≡ import_into text.now words.old }
 {
-    match judge(text) {
-        Judged::Refused(number, line) => Imported::Refused(number, line),
-        Judged::Bytes(n) => {
-            let refused = program::bad_bytes(n);
-            if refused {
-                return Imported::Refused(1, 0);
-            }
-            if words.len() < n / 4 {
-                return Imported::Refused(18, 0);
-            }
-            store(text, words);
-            Imported::Words(n / 4)
-        }
+    let n = judge(text)?;
+    if program::bad_bytes(n) {
+        return Err(RefusedLine {
+            refusal: Refusal::Program,
+            line: 0,
+        });
     }
+    if words.len() < n / 4 {
+        return Err(RefusedLine {
+            refusal: Refusal::ShortBuffer,
+            line: 0,
+        });
+    }
+    store(text, words);
+    Ok(n / 4)
 }

@@ -9,5 +9,5 @@ mod record;
 mod scan;
 mod storing;
 
-pub use exporting::{Exported, LONGEST, export};
-pub use importing::{Imported, import};
+pub use exporting::{LONGEST, export};
+pub use importing::import;

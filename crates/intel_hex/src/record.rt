@@ -1,16 +1,14 @@
 // A line's record, without its data bytes.
 ghost use Rattle.std.specs.Prelude.{◌≡◌, ◌+◌, ◌*◌, ◌≤◌, ◌<◌, length, get_or};
 ghost use Rattle.intel_hex.specs.Digits.{pair, pairs};
-ghost use Rattle.intel_hex.specs.Scan.{heading_at, FieldsRead, TextLength};
-ghost use Rattle.intel_hex.specs.Record.{record_of, bytes_record};
-ghost use Rattle.intel_hex.specs.Scan.{heading};
+ghost use Rattle.intel_hex.specs.Scan.{heading, heading_at, FieldsRead};
+ghost use Rattle.intel_hex.specs.Record.{without_cr, record_of, bytes_record};
 
-use crate::digits::{Digest, sum_of, value_of};
+use crate::digits::{sum_of, value_of};
 
 // Data at an address, and how many bytes of it; the upper half of addresses; the end.
-#[derive(Clone, Copy)]
+#[derive(Clone, Copy, Debug, PartialEq, Eq)]
 pub enum Heading {
-    Bad,
     Data(u32, u32),
     Base(u32),
     End,
@@ -23,36 +21,37 @@ pub fn byte_at(digits: &[u8], k: usize) -> u32
 {
     let high = value_of(digits[k + k]);
     let low = value_of(digits[k + k + 1]);
-    16 * (high as u32) + (low as u32)
+    16 * u32::from(high) + u32::from(low)
 }
 
 // What type, address and length say.
-fn typed(kind: u32, address: u32, n: u32, upper: u32) -> Heading
+#[tactic(auto, unfolding(crate::specs::Scan::heading_at))]
+fn typed(kind: u32, address: u32, n: u32, upper: u32) -> Option<Heading>
     ensures { result ≡ heading_at kind address n upper }
 {
     if (kind == 0) & (n != 0) {
-        return Heading::Data(address, n);
+        return Some(Heading::Data(address, n));
     }
     if (kind == 1) & (address == 0) & (n == 0) {
-        return Heading::End;
+        return Some(Heading::End);
     }
     if (kind == 4) & (address == 0) & (n == 2) {
-        return Heading::Base(upper);
+        return Some(Heading::Base(upper));
     }
-    Heading::Bad
+    None
 }
 
 // The fields of digits of which the sum is known.
-fn fields(digits: &[u8], sum: u32) -> Heading
+fn fields(digits: &[u8], sum: u32) -> Option<Heading>
     requires { 10 ≤ length digits.now }
     ensures { FieldsRead digits.now sum result }
 {
     let n = byte_at(digits, 0);
     if digits.len() != 10 + 2 * (n as usize) {
-        return Heading::Bad;
+        return None;
     }
     if sum != 0 {
-        return Heading::Bad;
+        return None;
     }
     let address = 256 * byte_at(digits, 1) + byte_at(digits, 2);
     let kind = byte_at(digits, 3);
@@ -68,42 +67,32 @@ fn fields(digits: &[u8], sum: u32) -> Heading
 }
 
 // The record behind a colon.
-fn digits_heading(digits: &[u8]) -> Heading
+fn digits_heading(digits: &[u8]) -> Option<Heading>
     ensures { result ≡ heading (bytes_record (pairs digits.now)) }
 {
+    let sum = sum_of(digits)?;
     if digits.len() < 10 {
-        return Heading::Bad;
+        return None;
     }
-    match sum_of(digits) {
-        Digest::Sum(sum) => fields(digits, sum),
-        Digest::NoHex => Heading::Bad,
-    }
+    fields(digits, sum)
 }
 
-// A line's text without the CR at its end: its length.
-pub fn text_length(line: &[u8]) -> usize
-    ensures { TextLength line.now result }
+// A line's text without the CR at its end.
+fn without_cr(line: &[u8]) -> &[u8]
+    ensures { result.now ≡ without_cr line.now }
 {
-    let n = line.len();
-    if n == 0 {
-        return 0;
+    match line {
+        [text @ .., b'\r'] => text,
+        _ => line,
     }
-    if line[n - 1] == 13 {
-        return n - 1;
-    }
-    n
 }
 
-// The record of a line's text.
-pub fn heading_of(line: &[u8]) -> Heading
+// The record of a line's text; none where it is none.
+pub fn heading_of(line: &[u8]) -> Option<Heading>
     ensures { result ≡ heading (record_of line.now) }
 {
-    let n = text_length(line);
-    if n == 0 {
-        return Heading::Bad;
+    match without_cr(line) {
+        [b':', digits @ ..] => digits_heading(digits),
+        _ => None,
     }
-    if line[0] != 58 {
-        return Heading::Bad;
-    }
-    digits_heading(&line[1..n])
 }

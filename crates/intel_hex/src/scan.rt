@@ -1,23 +1,28 @@
 // A file judged: line by line, before anything is stored.
-ghost use Rattle.std.specs.Prelude.{◌≡◌, true, false, ◌+◌, ◌*◌, ◌≤◌, ◌<◌, length, drop};
+ghost use Rattle.std.specs.Prelude.{◌≡◌, ◌==◌, ◌+◌, ◌≤◌, length, drop, position};
 ghost use Rattle.intel_hex.specs.File.{image_of};
-ghost use Rattle.intel_hex.specs.Scan.{line_length, advanced, judged};
+ghost use Rattle.intel_hex.specs.Record.{record_of};
+ghost use Rattle.intel_hex.specs.Scan.{heading, line_length, advanced, judgement, judged};
 
 use crate::record::{Heading, heading_of};
+use answer::{Refusal, RefusedLine};
+
+// Where the first LF of a text is.
+fn line_feed(text: &[u8]) -> Option<usize>
+    ensures { result ≡ position (λ c. c == 10) text.now }
+{
+    text.iter().position(|&c| c == b'\n')
+}
 
 // Where the line that begins at a place ends: at its LF, or at the text's end.
 pub fn line_end(text: &[u8], at: usize) -> usize
     requires { at ≤ length text.now }
     ensures { (result ≡ at + line_length (drop at text.now)) × (at ≤ result) × (result ≤ length text.now) }
 {
-    let mut i = at;
-    while i < text.len() {
-        if text[i] == 10 {
-            return i;
-        }
-        i += 1;
+    match line_feed(&text[at..]) {
+        Some(length) => at + length,
+        None => text.len(),
     }
-    i
 }
 
 // The upper half of addresses, the end of the last data record, and whether the end record was there.
@@ -28,54 +33,36 @@ pub struct Cursor {
     pub ended: bool,
 }
 
-#[derive(Clone, Copy)]
-pub enum Step {
-    Next(Cursor),
-    Stopped(u8),
-}
-
-// One record more.
-pub fn advance(c: Cursor, h: Heading) -> Step
-    ensures { result ≡ advanced c h }
+// One record more, that of a line.
+#[tactic(auto, unfolding(crate::specs::Scan::advanced))]
+fn advance(c: Cursor, line: &[u8]) -> Result<Cursor, Refusal>
+    ensures { result ≡ advanced c (heading (record_of line.now)) }
 {
-    match h {
-        Heading::Bad => Step::Stopped(15),
-        Heading::End => Step::Next(Cursor {
-            upper: c.upper,
-            top: c.top,
-            ended: true,
-        }),
-        Heading::Base(upper) => Step::Next(Cursor {
-            upper: upper,
-            top: c.top,
+    match heading_of(line) {
+        None => Err(Refusal::HexRecord),
+        Some(Heading::End) => Ok(Cursor { ended: true, ..c }),
+        Some(Heading::Base(upper)) => Ok(Cursor {
+            upper,
             ended: false,
+            ..c
         }),
-        Heading::Data(address, n) => {
+        Some(Heading::Data(address, n)) => {
             let from = 65536 * (c.upper as usize) + (address as usize);
-            if from < c.top {
-                return Step::Stopped(16);
+            if from < c.top || 65536 < address as usize + (n as usize) {
+                return Err(Refusal::HexOrder);
             }
-            if 65536 < address as usize + (n as usize) {
-                return Step::Stopped(16);
-            }
-            Step::Next(Cursor {
-                upper: c.upper,
+            Ok(Cursor {
                 top: from + (n as usize),
                 ended: false,
+                ..c
             })
         }
     }
 }
 
-// How many bytes a file says, or the number that it is refused with and the line.
-#[derive(Clone, Copy)]
-pub enum Judged {
-    Bytes(usize),
-    Refused(u8, usize),
-}
-
-pub fn judge(text: &[u8]) -> Judged
-    ensures { result ≡ judged (image_of text.now) }
+// How many bytes a file says, or the first line that it is refused at.
+pub fn judge(text: &[u8]) -> Result<usize, RefusedLine>
+    ensures { judgement result ≡ judged (image_of text.now) }
 {
     let mut c = Cursor {
         upper: 0,
@@ -86,26 +73,30 @@ pub fn judge(text: &[u8]) -> Judged
     let mut at = 0;
     while at < text.len() {
         if c.ended {
-            return Judged::Refused(17, line);
+            return Err(RefusedLine {
+                refusal: Refusal::HexEnd,
+                line,
+            });
         }
         let e = line_end(text, at);
         if e == text.len() {
-            return Judged::Refused(15, line);
+            return Err(RefusedLine {
+                refusal: Refusal::HexRecord,
+                line,
+            });
         }
-        let h = heading_of(&text[at..e]);
-        match advance(c, h) {
-            Step::Stopped(number) => {
-                return Judged::Refused(number, line);
-            }
-            Step::Next(next) => {
-                c = next;
-            }
-        }
+        c = match advance(c, &text[at..e]) {
+            Ok(next) => next,
+            Err(refusal) => return Err(RefusedLine { refusal, line }),
+        };
         line += 1;
         at = e + 1;
     }
     if c.ended {
-        return Judged::Bytes(c.top);
+        return Ok(c.top);
     }
-    Judged::Refused(17, line)
+    Err(RefusedLine {
+        refusal: Refusal::HexEnd,
+        line,
+    })
 }

@@ -21,10 +21,8 @@ fn fill(words: &mut [u32], from: usize, to: usize)
     requires { (from ≤ to) × (to ≤ 4 * length words.old) }
     ensures { words.new ≡ store_all words.old from (replicate (to - from) 0) }
 {
-    let mut a = from;
-    while a < to {
+    for a in from..to {
         put_at(words, a, 0);
-        a += 1;
     }
 }
 
@@ -33,10 +31,8 @@ fn store_data(digits: &[u8], n: usize, words: &mut [u32], from: usize)
     requires { (from + n ≤ 4 * length words.old) × (n + n + 10 ≤ length digits.now) }
     ensures { words.new ≡ store_all words.old from (pair_bytes digits.now 4 n) }
 {
-    let mut i = 0;
-    while i < n {
+    for i in 0..n {
         put_at(words, from + i, byte_at(digits, 4 + i) % 256);
-        i += 1;
     }
 }
 
@@ -49,23 +45,19 @@ pub struct Place {
 
 // Stores a record.
 fn store_record(line: &[u8], h: Heading, p: Place, words: &mut [u32]) -> Place
-    requires { RecordFits line.now h p words.old }
-    ensures { (result ≡ place_after h p) × (words.new ≡ words_after line.now h p words.old) }
+    requires { RecordFits line.now (Some h) p words.old }
+    ensures { (result ≡ place_after (Some h) p) × (words.new ≡ words_after line.now (Some h) p words.old) }
 {
     match h {
-        Heading::Bad => p,
         Heading::End => p,
-        Heading::Base(upper) => Place {
-            upper: upper,
-            top: p.top,
-        },
+        Heading::Base(upper) => Place { upper, ..p },
         Heading::Data(address, n) => {
             let from = 65536 * (p.upper as usize) + (address as usize);
             fill(words, p.top, from);
             store_data(&line[1..], n as usize, words, from);
             Place {
-                upper: p.upper,
                 top: from + (n as usize),
+                ..p
             }
         }
     }
@@ -80,8 +72,11 @@ pub fn store(text: &[u8], words: &mut [u32])
     let mut at = 0;
     while at < text.len() {
         let e = line_end(text, at);
-        let h = heading_of(&text[at..e]);
-        p = store_record(&text[at..e], h, p, words);
+        let line = &text[at..e];
+        p = match heading_of(line) {
+            Some(h) => store_record(line, h, p, words),
+            None => p,
+        };
         at = e + 1;
     }
 }

@@ -6,5 +6,5 @@ mod number;
 mod parsing;
 
 pub use buffer::put_text;
-pub use number::{hex_of, put_decimal, put_long};
+pub use number::{digit_of, hex_of, put_decimal, put_long};
 pub use parsing::number_of;

@@ -6,7 +6,7 @@ ghost use Rattle.text.specs.Number.{digit, hex, decimal, decimal_long};
 use crate::buffer::put_text;
 
 // The digit of a number below 16.
-fn digit_of(n: u32) -> u8
+pub fn digit_of(n: u32) -> u8
     requires { n < 16 }
     ensures { result ≡ digit n }
 {

@@ -1,7 +1,7 @@
 -- `put_bytes` meets its contract: after i turns the first i bytes stand in the buffer.
 use Prim.Native.Nat.{ℕ}
 use mathlib.Core.List.{List, [], ◌∷◌}
-use mathlib.Core.Path.{◌≡◌, refl, sym, ap, ◌∙◌}
+use mathlib.Core.Path.{◌≡◌, sym, ap, ◌∙◌}
 use native.Mathlib.Omega.{arith}
 use lib.ListN.{take, drop}
 use Rattle.text.specs.Buffer.{writes}
@@ -13,7 +13,7 @@ use Rattle.intel_hex.proofs.exporting.put_bytes.Goals as goal
 
 pub loop-i-init : goal.loop-i-init
 unfolding hexes
-loop-i-init c = (writes-none _ _, omega arith, refl, omega arith)
+loop-i-init c = (writes-none _ _, omega arith)
 
 pub put_byte-p-requires : goal.put_byte-p-requires
 put_byte-p-requires c = (omega arith, c.program_byte.ensures.1)
@@ -29,10 +29,7 @@ loop-i-preserved c =
     let m = length-hexes-take ws x.from l.i (omega arith) in
     let e = next x.out.now x.at t (omega arith) (hexes (b.result ∷ [])) l.p l.out q.result _ l.invariant.0 q.ensures in
     let f = hexes-more ws x.from l.i b.result (omega arith) b.ensures.0 in
-    (e ∙ ap (λ (u : List ℕ). writes x.out.now x.at u) (sym f), omega arith, omega arith, omega (arith, length-pair b.result, end_is q.ensures))
-
-pub shape_of-out : goal.shape_of-out
-shape_of-out c = c.loop-i.invariant.2
+    (e ∙ ap (λ (u : List ℕ). writes x.out.now x.at u) (sym f), omega (arith, length-pair b.result, end_is q.ensures))
 
 pub returns : goal.returns
 returns c =

@@ -10,7 +10,7 @@ use Rattle.intel_hex.proofs.exporting.sum_from.Goals as goal
 
 pub loop-i-init : goal.loop-i-init
 unfolding total
-loop-i-init c = (omega arith, omega arith, omega arith)
+loop-i-init c = (omega arith, omega arith)
 
 pub overflow_add-s : goal.overflow_add-s
 overflow_add-s c = omega (arith, c.program_byte.ensures.1)
@@ -20,12 +20,12 @@ loop-i-preserved c =
     let x = c.args in
     let l = c.loop-i in
     let e = total-more x.words.now x.from l.i (omega arith) in
-    let f : l.s ≡ (x.sum + total (take l.i (drop x.from (program_bytes x.words.now)))) % 256 = l.invariant.2 in
-    (omega arith, omega arith, omega (arith, c.program_byte.ensures.0))
+    let f : l.s ≡ (x.sum + total (take l.i (drop x.from (program_bytes x.words.now)))) % 256 = l.invariant.1 in
+    (omega arith, omega (arith, c.program_byte.ensures.0))
 
 pub returns : goal.returns
 returns c =
     let x = c.args in
     let l = c.loop-i in
     let e : l.i ≡ x.n = omega arith in
-    rw (← e) l.invariant.2
+    rw (← e) l.invariant.1

@@ -1,8 +1,6 @@
 -- `judge` meets its contract: what is read so far, and the lines that are left, are the whole file.
-use mathlib.Core.Path.{sym, ap, ◌∙◌}
+use mathlib.Core.Path.{sym, ◌∙◌}
 use native.Mathlib.Omega.{arith}
-use Rattle.intel_hex.specs.Scan.{advanced}
-use Rattle.intel_hex.specs.Types.{Step}
 use Rattle.intel_hex.proofs.Scanning.{begin, judged-behind, judged-unended, judged-whole, judged-endless, judged-stops, judging}
 use Rattle.intel_hex.proofs.scan.judge.Goals as goal
 
@@ -19,19 +17,17 @@ returns-then-e-text c =
     let l = c.loop-at in
     judged-unended c.args.text.now l.c l.line l.at l.invariant (omega arith) c.if-c.false (sym c.line_end-e.ensures.0 ∙ c.if-e-text.true)
 
-pub returns-in-Stopped : goal.returns-in-Stopped
-returns-in-Stopped c =
+pub returns-in-Err : goal.returns-in-Err
+returns-in-Err c =
     let l = c.loop-at in
     judged-stops c.args.text.now l.c l.line l.at l.invariant
-    c.line_end-e.result (omega arith) c.if-c.false c.line_end-e.ensures.0 _
-    (ap {B = Step} (λ x. advanced l.c x) (sym c.heading_of-h.ensures) ∙ sym c.advance.ensures ∙ c.in-Stopped.is)
+    c.line_end-e.result (omega arith) c.if-c.false c.line_end-e.ensures.0 c.in-Err.refusal (sym c.advance.ensures ∙ c.in-Err.is)
 
 pub loop-at-preserved : goal.loop-at-preserved
 loop-at-preserved c =
     let l = c.loop-at in
     judging c.args.text.now l.c l.line l.at l.invariant
-    c.line_end-e.result (omega arith) c.if-c.false c.line_end-e.ensures.0 _
-    (ap {B = Step} (λ x. advanced l.c x) (sym c.heading_of-h.ensures) ∙ sym c.advance.ensures ∙ c.in-Next.is)
+    c.line_end-e.result (omega arith) c.if-c.false c.line_end-e.ensures.0 c.in-Ok.next (sym c.advance.ensures ∙ c.in-Ok.is)
 
 pub returns-then-c-2 : goal.returns-then-c-2
 returns-then-c-2 c =

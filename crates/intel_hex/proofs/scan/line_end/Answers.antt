@@ -1,29 +1,19 @@
--- `line_end` meets its contract: what is passed has no LF.
-use mathlib.Core.Path.{refl}
-use native.Mathlib.Omega.{arith}
-use Rattle.intel_hex.proofs.Lines.{length-stop, length_more, length_none}
+-- `line_end` meets its contract: the first LF is where the line ends, and without one the text's end.
+use Rattle.std.proofs.Common.{sym, ◌∙◌, arith, drop, length-drop}
+use Rattle.intel_hex.proofs.Lines.{lf-some, lf-none, lf-within, rest_of}
 use Rattle.intel_hex.proofs.scan.line_end.Goals as goal
 
-pub loop-i-init : goal.loop-i-init
-loop-i-init c = (omega arith, omega arith, refl)
+pub returns-in-Some : goal.returns-in-Some
+returns-in-Some c =
+    let t = drop c.args.at c.args.text.now in
+    let e = lf-some t c.in-Some.length (sym c.in-Some.is ∙ rw (rest_of c.args.text.now c.args.at) at c.line_feed.ensures) in
+    let w = lf-within t in
+    let d = length-drop c.args.at c.args.text.now in
+    (omega arith, omega arith, omega arith)
 
-pub returns-then-text-i-eq10 : goal.returns-then-text-i-eq10
-returns-then-text-i-eq10 c =
-    let x = c.args in
-    let l = c.loop-i in
-    let e = length-stop x.text.now l.i (omega arith) c.if-text-i-eq10.true in
-    (omega (arith, l.invariant.2), omega arith, omega arith)
-
-pub loop-i-preserved : goal.loop-i-preserved
-loop-i-preserved c =
-    let x = c.args in
-    let l = c.loop-i in
-    let e = length_more x.text.now l.i (omega arith) c.if-text-i-eq10.false in
-    (omega arith, omega arith, omega (arith, l.invariant.2))
-
-pub returns : goal.returns
-returns c =
-    let x = c.args in
-    let l = c.loop-i in
-    let e = length_none x.text.now l.i (omega arith) in
-    (omega (arith, l.invariant.2), omega arith, omega arith)
+pub returns-in-None : goal.returns-in-None
+returns-in-None c =
+    let t = drop c.args.at c.args.text.now in
+    let e = lf-none t (sym c.in-None.is ∙ rw (rest_of c.args.text.now c.args.at) at c.line_feed.ensures) in
+    let d = length-drop c.args.at c.args.text.now in
+    (omega arith, omega arith, omega arith)

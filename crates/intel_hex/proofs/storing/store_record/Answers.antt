@@ -2,6 +2,7 @@
 use Prim.Native.Nat.{ℕ, ◌+◌, ◌*◌}
 use mathlib.Core.List.{List}
 use mathlib.Core.Path.{refl, ap, ◌∙◌}
+use Rattle.std.specs.Prelude.{Some}
 use native.Mathlib.Omega.{arith}
 use lib.ListN.{length, drop, length-drop}
 use Rattle.intel_hex.specs.Storing.{store_all, pair_bytes, words_after, place_after}
@@ -11,29 +12,25 @@ use Rattle.intel_hex.proofs.storing.store_record.Goals as goal
 
 pub fill-requires : goal.fill-requires
 fill-requires c =
-    let f = fits-data c.args.line.now c.args.h c.args.p c.args.words.now _ _ c.requires c.in-Data.is in
+    let f = fits-data c.args.line.now (Some c.args.h) c.args.p c.args.words.now _ _ c.requires (ap Some c.in-Data.is) in
     (omega (arith, f.rises), omega (arith, f.room))
 
 pub slice_bounds-store_data-count : goal.slice_bounds-store_data-count
 slice_bounds-store_data-count c =
-    let f = fits-data c.args.line.now c.args.h c.args.p c.args.words.now _ _ c.requires c.in-Data.is in
+    let f = fits-data c.args.line.now (Some c.args.h) c.args.p c.args.words.now _ _ c.requires (ap Some c.in-Data.is) in
     omega (arith, f.long)
 
 pub slice_bounds-store_data-start : goal.slice_bounds-store_data-start
 slice_bounds-store_data-start c =
-    let f = fits-data c.args.line.now c.args.h c.args.p c.args.words.now _ _ c.requires c.in-Data.is in
+    let f = fits-data c.args.line.now (Some c.args.h) c.args.p c.args.words.now _ _ c.requires (ap Some c.in-Data.is) in
     omega (arith, f.long)
 
 pub store_data-requires : goal.store_data-requires
 store_data-requires c =
-    let f = fits-data c.args.line.now c.args.h c.args.p c.args.words.now _ _ c.requires c.in-Data.is in
+    let f = fits-data c.args.line.now (Some c.args.h) c.args.p c.args.words.now _ _ c.requires (ap Some c.in-Data.is) in
     let q = c.fill in
     let t = whole-tail c.args.line.now in
     (omega (arith, f.room, ap length q.ensures ∙ length-store c.args.words.now _ _), omega (arith, f.long, ap length t, length-drop 1 c.args.line.now))
-
-pub returns-in-Bad : goal.returns-in-Bad
-unfolding place_after words_after
-returns-in-Bad c = search rules
 
 pub returns-in-End : goal.returns-in-End
 unfolding place_after words_after

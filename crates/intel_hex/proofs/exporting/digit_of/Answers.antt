@@ -1,9 +1,0 @@
--- `digit_of` meets its contract, below ten and above.
-use borrow.Author.Tests.{lt-ltb, le-ltb}
-use Rattle.intel_hex.proofs.exporting.digit_of.Goals as goal
-
-pub returns-then-n-lt10 : goal.returns-then-n-lt10
-returns-then-n-lt10 c = rw (lt-ltb _ _ c.if-n-lt10.true)
-
-pub returns : goal.returns
-returns c = rw (le-ltb _ _ c.if-n-lt10.false)
