@@ -10,7 +10,9 @@ use Rattle.token.specs.Token.{leading_word}
 use Rattle.statement.specs.Line.{line_of}
 use Rattle.statement.specs.Evaluation.{evaluated_line, line_value, LabelInside}
 use Rattle.statement.specs.declared.lines.Line as C
-use Rattle.statement.specs.declared.lines.Line.TheVariants.{Malformed, Blank, Label, Code}
+use Rattle.statement.specs.declared.lines.Line.TheVariants.{Blank, Label, Code}
+use Rattle.std.specs.Prelude.{Some, None}
+use Rattle.std.specs.Prelude as std
 use Rattle.assembler.specs.Source.{line_in, lines_of, named, count, labels_from, labels_of}
 use Rattle.assembler.specs.Walk.{first_text, entries, labels_in, words_in}
 use Rattle.assembler.specs.Table.{entered}
@@ -19,27 +21,27 @@ use Rattle.assembler.proofs.Tables.{entries-more, take-entered}
 use Rattle.assembler.proofs.Texts.{texts_at, texts-all}
 use Rattle.assembler.proofs.Walking.{text_at, text-here, text-length, text-word}
 
-pub entered-length : (r : C.Line) (start n words : ℕ) (t : List ℕ) → length (entered r start n words t) ≡ length t
-entered-length Malformed start n words t = refl
-entered-length Blank start n words t = refl
-entered-length (Label s) start n words t = length-set (set t (2 * n) (start + s)) (2 * n + 1) (4 * words) ∙ length-set t (2 * n) (start + s)
-entered-length (Code i f) start n words t = refl
+pub entered-length : (r : std.Option C.Line) (start n words : ℕ) (t : List ℕ) → length (entered r start n words t) ≡ length t
+entered-length None start n words t = refl
+entered-length (Some Blank) start n words t = refl
+entered-length (Some (Label s)) start n words t = length-set (set t (2 * n) (start + s)) (2 * n + 1) (4 * words) ∙ length-set t (2 * n) (start + s)
+entered-length (Some (Code i f)) start n words t = refl
 
 no_more : (source t : List ℕ) (n : ℕ) → entries source (take (2 * n) t) ++ [] ≡ entries source (take (2 * (n + 0)) t)
 no_more source t n = let q : 2 * n ≡ 2 * (n + 0) = omega arith in append-nil (entries source (take (2 * n) t)) ∙ ap (λ k. entries source (take k t)) q
 
 module _ (source : List ℕ) (start end : ℕ) (h : start ≤ length source) (e : end ≡ start + length (first_text (drop start source))) (a : List ℕ → Option ℕ) where
-  entered-entries : (r : C.Line) (hs : line_value (text_at source start end) r ≡ evaluated_line a (line_of (text_at source start end))) (t : List ℕ) (n words : ℕ) → 2 * n + 1 < length t → LabelInside (length (text_at source start end)) r → entries source (take (2 * n) t) ++ labels_here a (text_at source start end) r hs words ≡ entries source (take (2 * (n + labels_in r)) (entered r start n words t))
+  entered-entries : (r : std.Option C.Line) (hs : line_value (text_at source start end) r ≡ evaluated_line a (line_of (text_at source start end))) (t : List ℕ) (n words : ℕ) → 2 * n + 1 < length t → LabelInside (length (text_at source start end)) r → entries source (take (2 * n) t) ++ labels_here a (text_at source start end) r hs words ≡ entries source (take (2 * (n + labels_in r)) (entered r start n words t))
   unfolding labels_here said_labels
-  entered-entries Malformed hs t n words room l = no_more source t n
-  entered-entries Blank hs t n words room l = no_more source t n
-  entered-entries (Code i f) hs t n words room l = no_more source t n
-  entered-entries (Label s) hs t n words room l =
+  entered-entries None hs t n words room l = no_more source t n
+  entered-entries (Some Blank) hs t n words room l = no_more source t n
+  entered-entries (Some (Code i f)) hs t n words room l = no_more source t n
+  entered-entries (Some (Label s)) hs t n words room l =
       let w : leading_word (drop s (text_at source start end)) ≡ leading_word (drop (start + s) source) = text-word source start end h e s (omega (arith, text-length source start end h e)) in
       let m : entries source (take (2 * n) t ++ (start + s) ∷ (4 * words) ∷ []) ≡ entries source (take (2 * n) t) ++ named (leading_word (drop (start + s) source)) (4 * words) ∷ [] = entries-more source n (take (2 * n) t) (start + s) (4 * words) (length-take-le (2 * n) t (omega arith)) in
       rw w (sym (ap (entries source) (take-entered t n (start + s) (4 * words) room) ∙ m))
 
-  module _ (r : C.Line) (hs : line_value (text_at source start end) r ≡ evaluated_line a (line_of (text_at source start end))) (words : ℕ) where
+  module _ (r : std.Option C.Line) (hs : line_value (text_at source start end) r ≡ evaluated_line a (line_of (text_at source start end))) (words : ℕ) where
     pub labels-further : (t : List ℕ) (n : ℕ) → 2 * n + 1 < length t → LabelInside (length (text_at source start end)) r → labels_of (lines_of source) ≡ entries source (take (2 * n) t) ++ labels_from (4 * words) (map line_in (texts_at source start)) → labels_of (lines_of source) ≡ entries source (take (2 * (n + labels_in r)) (entered r start n words t)) ++ labels_from (4 * (words + words_in r)) (map line_in (texts_at source (end + 1)))
     labels-further t n room l i =
         i ∙ ap (λ ts. entries source (take (2 * n) t) ++ labels_from (4 * words) (map line_in ts)) (text-here source start end h e)

@@ -10,7 +10,9 @@ use Rattle.statement.specs.Evaluation.{LineValue, evaluated_line, line_value}
 use Rattle.statement.specs.Field.{value_in, operand_values_of}
 use Rattle.token.specs.Token.{leading_word}
 use Rattle.statement.specs.declared.lines.Line as C
-use Rattle.statement.specs.declared.lines.Line.TheVariants.{Malformed, Blank, Label, Code}
+use Rattle.statement.specs.declared.lines.Line.TheVariants.{Blank, Label, Code}
+use Rattle.std.specs.Prelude.{Some, None}
+use Rattle.std.specs.Prelude as std
 use Rattle.assembler.specs.Types.{Pass, Texts, Labels, Words}
 use Rattle.assembler.specs.Source.{line_or, line_in, named, count, labels_from, labels_of, malformed_in, label_number, word_number, value_word, and_word, words_from}
 use Rattle.assembler.specs.Source.{Label as Source-as-Label}
@@ -82,29 +84,29 @@ words-said a k (some (instruction i os)) ls =
     ap (λ x. and_word (value_word (instruction_word i (operand_values_of a os) k) (value_in a os.expression)) (words_from a x ls)) q
 
 -- the same of what the code sees
-seen-labels : (text : List ℕ) (at : ℕ) (r : C.Line) → length (said_labels at (line_value text r)) ≡ labels_in r
+seen-labels : (text : List ℕ) (at : ℕ) (r : std.Option C.Line) → length (said_labels at (line_value text r)) ≡ labels_in r
 unfolding said_labels
-seen-labels text at Malformed = refl
-seen-labels text at Blank = refl
-seen-labels text at (Label s) = refl
-seen-labels text at (Code i f) = refl
+seen-labels text at None = refl
+seen-labels text at (Some Blank) = refl
+seen-labels text at (Some (Label s)) = refl
+seen-labels text at (Some (Code i f)) = refl
 
-seen-words : (text : List ℕ) (r : C.Line) → said_words (line_value text r) ≡ words_in r
+seen-words : (text : List ℕ) (r : std.Option C.Line) → said_words (line_value text r) ≡ words_in r
 unfolding said_words
-seen-words text Malformed = refl
-seen-words text Blank = refl
-seen-words text (Label s) = refl
-seen-words text (Code i f) = refl
+seen-words text None = refl
+seen-words text (Some Blank) = refl
+seen-words text (Some (Label s)) = refl
+seen-words text (Some (Code i f)) = refl
 
-seen-word : (text : List ℕ) (k : ℕ) (r : C.Line) → said_word k (line_value text r) ≡ line_word k r
+seen-word : (text : List ℕ) (k : ℕ) (r : std.Option C.Line) → said_word k (line_value text r) ≡ line_word k r
 unfolding said_word
-seen-word text k Malformed = refl
-seen-word text k Blank = refl
-seen-word text k (Label s) = refl
-seen-word text k (Code i f) = refl
+seen-word text k None = refl
+seen-word text k (Some Blank) = refl
+seen-word text k (Some (Label s)) = refl
+seen-word text k (Some (Code i f)) = refl
 
 -- a text that the code sees as a line
-module _ (a : List ℕ → Option ℕ) (text : List ℕ) (r : C.Line) (h : line_value text r ≡ evaluated_line a (line_of text)) where
+module _ (a : List ℕ → Option ℕ) (text : List ℕ) (r : std.Option C.Line) (h : line_value text r ≡ evaluated_line a (line_of text)) where
   words-seen : said_words (evaluated_line a (line_of text)) ≡ words_in r
   words-seen = ap said_words (sym h) ∙ seen-words text r
 
@@ -127,6 +129,6 @@ module _ (a : List ℕ → Option ℕ) (text : List ℕ) (r : C.Line) (h : line_
   line-words k ls = words-said a k (line_of text) ls ∙ ap (λ s. and_word (said_word k s) (words_from a (4 * (k + said_words (evaluated_line a (line_of text)))) ls)) (sym h) ∙ ap (λ s. and_word s (words_from a (4 * (k + said_words (evaluated_line a (line_of text)))) ls)) (seen-word text k r) ∙ ap (λ n. and_word (line_word k r) (words_from a (4 * (k + n)) ls)) words-seen
 
 -- the label of a line that the code sees, in words of its place
-pub label-here : (a : List ℕ → Option ℕ) (text : List ℕ) (s k : ℕ) (h : line_value text (Label s) ≡ evaluated_line a (line_of text)) → labels_here a text (Label s) h k ≡ named (leading_word (drop s text)) (4 * k) ∷ []
+pub label-here : (a : List ℕ → Option ℕ) (text : List ℕ) (s k : ℕ) (h : line_value text (Some (Label s)) ≡ evaluated_line a (line_of text)) → labels_here a text (Some (Label s)) h k ≡ named (leading_word (drop s text)) (4 * k) ∷ []
 unfolding labels_here said_labels
 label-here a text s k h = refl

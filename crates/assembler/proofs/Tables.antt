@@ -6,6 +6,8 @@ use Rattle.token.proofs.Runs.{run-part}
 use Rattle.token.proofs.Runs.{part-is}
 use mathlib.Core.List.{List, [], ◌∷◌, ◌++◌}
 use mathlib.Core.Option.{Option, none, some}
+use mathlib.Core.Logic.{◌⊎◌}
+use Rattle.std.proofs.Common.{inl, inr}
 use mathlib.Core.Path.{◌≡◌, refl, sym, ap, ◌∙◌}
 use native.Mathlib.Numerals.{add-one}
 use native.Mathlib.Omega.{arith}
@@ -85,6 +87,10 @@ abbrev pub is_unknown : Value → Bool
 is_unknown (Known n) = false
 is_unknown TooLarge = false
 is_unknown Unknown = true
+
+pub not_unknown : (v : Value) → ((n : ℕ) × (v ≡ Known n)) ⊎ (v ≡ TooLarge) → is_unknown v ≡ false
+not_unknown v (inl (n, h)) = rw h
+not_unknown v (inr h) = rw h
 
 pub known_is : (o : Option ℕ) (v : Value) → is_unknown v ≡ false → v ≡ label_value o → is_known o ≡ true
 known_is none v n h = absurd (let z : true ≡ false = ap is_unknown (sym h) ∙ n in let y : ◌≡◌ {A = ℕ} 0 1 = cc in omega arith)

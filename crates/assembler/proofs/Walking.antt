@@ -10,7 +10,9 @@ use Rattle.token.specs.Token.{leading_word}
 use Rattle.statement.specs.Line.{Line, line_of}
 use Rattle.statement.specs.Evaluation.{LineValue, evaluated_line, line_value, LabelInside}
 use Rattle.statement.specs.declared.lines.Line as C
-use Rattle.statement.specs.declared.lines.Line.TheVariants.{Malformed, Blank, Label, Code}
+use Rattle.statement.specs.declared.lines.Line.TheVariants.{Blank, Label, Code}
+use Rattle.std.specs.Prelude.{Some, None}
+use Rattle.std.specs.Prelude as std
 use Rattle.token.proofs.Runs.{part-is}
 use Rattle.statement.proofs.Ends.{take-upto, word-in-line}
 use Rattle.assembler.specs.Types.{Pass, Texts, Labels, Words}
@@ -92,7 +94,7 @@ module _ (source labels : List ℕ) (before : ℕ) where
     labels-equal Words t q = absurd (let z : ◌≡◌ {A = ℕ} 0 1 = cc in omega arith)
 
     -- what is judged of a line is what the rule says of its text
-    pub number_is : (pass : Pass) (a : List ℕ → Option ℕ) (words : ℕ) (text : List ℕ) (r : C.Line) → TableFor pass source labels → words ≡ count (map line_in (take before (texts_of source))) → line_value text r ≡ evaluated_line a (line_of text) → line_number_of pass (entries source (take (2 * n) labels)) words (line_value text r) ≡ rule_of pass a (take before (texts_of source)) text
+    pub number_is : (pass : Pass) (a : List ℕ → Option ℕ) (words : ℕ) (text : List ℕ) (r : std.Option C.Line) → TableFor pass source labels → words ≡ count (map line_in (take before (texts_of source))) → line_value text r ≡ evaluated_line a (line_of text) → line_number_of pass (entries source (take (2 * n) labels)) words (line_value text r) ≡ rule_of pass a (take before (texts_of source)) text
     number_is pass a words text r t wq h =
         any-labels pass (entries source (take (2 * n) labels)) (labels_of (map line_in (take before (texts_of source)))) words (line_value text r) (labels-equal pass t)
         ∙ ap (λ k. line_number_of pass (labels_of (map line_in (take before (texts_of source)))) k (line_value text r)) wq
@@ -100,7 +102,7 @@ module _ (source labels : List ℕ) (before : ℕ) where
         ∙ sym (rule-is pass a (take before (texts_of source)) text)
 
 -- one line further
-module _ (source : List ℕ) (before : ℕ) (a : List ℕ → Option ℕ) (text : List ℕ) (rest : List (List ℕ)) (r : C.Line) (at : drop before (texts_of source) ≡ text ∷ rest) (h : line_value text r ≡ evaluated_line a (line_of text)) where
+module _ (source : List ℕ) (before : ℕ) (a : List ℕ → Option ℕ) (text : List ℕ) (rest : List (List ℕ)) (r : std.Option C.Line) (at : drop before (texts_of source) ≡ text ∷ rest) (h : line_value text r ≡ evaluated_line a (line_of text)) where
   one_more : map line_in (take (before + 1) (texts_of source)) ≡ map line_in (take before (texts_of source)) ++ line_in text ∷ []
   one_more = ap (map line_in) (walk-take (texts_of source) before text rest at) ∙ map-append line_in (take before (texts_of source)) (text ∷ [])
 
@@ -122,26 +124,26 @@ module _ (source : List ℕ) (before : ℕ) (a : List ℕ → Option ℕ) (text 
       let d : length (labels_of (map line_in (take (before + 1) (texts_of source)))) ≡ length (labels_of p) + length (labels_from (4 * count p) (line_in text ∷ [])) = ap length l ∙ length-append (labels_of p) (labels_from (4 * count p) (line_in text ∷ [])) in
       omega arith
 
-pub label-longer : (m n : ℕ) (r : C.Line) → m ≤ n → LabelInside m r → LabelInside n r
-label-longer m n Malformed h l = l
-label-longer m n Blank h l = l
-label-longer m n (Label s) h l = omega arith
-label-longer m n (Code i f) h l = l
+pub label-longer : (m n : ℕ) (r : std.Option C.Line) → m ≤ n → LabelInside m r → LabelInside n r
+label-longer m n None h l = l
+label-longer m n (Some Blank) h l = l
+label-longer m n (Some (Label s)) h l = omega arith
+label-longer m n (Some (Code i f)) h l = l
 
-pub few-labels : (m : ℕ) (r : C.Line) → LabelInside m r → 2 * labels_in r ≤ m
-few-labels m Malformed l = omega arith
-few-labels m Blank l = omega arith
-few-labels m (Label s) l = omega arith
-few-labels m (Code i f) l = omega arith
+pub few-labels : (m : ℕ) (r : std.Option C.Line) → LabelInside m r → 2 * labels_in r ≤ m
+few-labels m None l = omega arith
+few-labels m (Some Blank) l = omega arith
+few-labels m (Some (Label s)) l = omega arith
+few-labels m (Some (Code i f)) l = omega arith
 
-pub few_words : (r : C.Line) → words_in r ≤ 1
-few_words Malformed = omega arith
-few_words Blank = omega arith
-few_words (Label s) = omega arith
-few_words (Code i f) = omega arith
+pub few_words : (r : std.Option C.Line) → words_in r ≤ 1
+few_words None = omega arith
+few_words (Some Blank) = omega arith
+few_words (Some (Label s)) = omega arith
+few_words (Some (Code i f)) = omega arith
 
-pub one_label : (r : C.Line) → labels_in r ≤ 1
-one_label Malformed = omega arith
-one_label Blank = omega arith
-one_label (Label s) = omega arith
-one_label (Code i f) = omega arith
+pub one_label : (r : std.Option C.Line) → labels_in r ≤ 1
+one_label None = omega arith
+one_label (Some Blank) = omega arith
+one_label (Some (Label s)) = omega arith
+one_label (Some (Code i f)) = omega arith

@@ -10,7 +10,9 @@ use lib.Seq.{take-suc-set, drop-drop, length-take-le, drop-set-lt}
 use Rattle.statement.specs.Line.{line_of}
 use Rattle.statement.specs.Evaluation.{evaluated_line, line_value}
 use Rattle.statement.specs.declared.lines.Line as C
-use Rattle.statement.specs.declared.lines.Line.TheVariants.{Malformed, Blank, Label, Code}
+use Rattle.statement.specs.declared.lines.Line.TheVariants.{Blank, Label, Code}
+use Rattle.std.specs.Prelude.{Some, None}
+use Rattle.std.specs.Prelude as std
 use Rattle.assembler.specs.Source.{line_in, lines_of, and_word, words_from}
 use Rattle.assembler.specs.Into.{over}
 use Rattle.assembler.specs.Walk.{first_text, words_in, line_word, stored, RoomFor, onwards}
@@ -27,11 +29,11 @@ at_most_one k none = omega arith
 at_most_one k (some w) = omega arith
 
 -- a line has no more words than instructions
-pub few : (k n : ℕ) (r : C.Line) → onwards k (line_word n r) ≤ k + words_in r
-few k n Malformed = omega arith
-few k n Blank = omega arith
-few k n (Label s) = omega arith
-few k n (Code i f) = at_most_one k (line_word n (Code i f))
+pub few : (k n : ℕ) (r : std.Option C.Line) → onwards k (line_word n r) ≤ k + words_in r
+few k n None = omega arith
+few k n (Some Blank) = omega arith
+few k n (Some (Label s)) = omega arith
+few k n (Some (Code i f)) = at_most_one k (line_word n (Some (Code i f)))
 
 -- words that begin with those of a buffer's first k places, and go on with one more
 module _ (k : ℕ) (buffer ws rest : List ℕ) where
@@ -54,7 +56,7 @@ module _ (k : ℕ) (buffer ws rest : List ℕ) where
   rest-stored old (some w) e =
       drop-set-lt (k + 1) buffer k w (omega arith) ∙ sym (drop-drop 1 k buffer) ∙ ap (drop 1) e ∙ drop-drop 1 k old
 
-module _ (source : List ℕ) (start end : ℕ) (h : start ≤ length source) (e : end ≡ start + length (first_text (drop start source))) (a : List ℕ → Option ℕ) (r : C.Line) (hs : line_value (text_at source start end) r ≡ evaluated_line a (line_of (text_at source start end))) where
+module _ (source : List ℕ) (start end : ℕ) (h : start ≤ length source) (e : end ≡ start + length (first_text (drop start source))) (a : List ℕ → Option ℕ) (r : std.Option C.Line) (hs : line_value (text_at source start end) r ≡ evaluated_line a (line_of (text_at source start end))) where
   pub words-here : (ws done : List ℕ) (n : ℕ) → ws ≡ done ++ words_from a (4 * n) (map line_in (texts_at source start)) → ws ≡ done ++ and_word (line_word n r) (words_from a (4 * (n + words_in r)) (map line_in (texts_at source (end + 1))))
   words-here ws done n i =
       i ∙ ap (λ ts. done ++ words_from a (4 * n) (map line_in ts)) (text-here source start end h e)

@@ -1,5 +1,6 @@
 -- A walk over the lines of a source, and the code's answers.
-use Rattle.std.specs.Prelude.{ℕ, ◌+◌, ◌*◌, ◌%◌, ◌^◌, ◌≤◌, ◌<◌, cond, List, [], ◌∷◌, map, ◌≡◌, eqb, length, drop, set}
+use Rattle.std.specs.Prelude.{ℕ, ◌+◌, ◌*◌, ◌%◌, ◌^◌, ◌≤◌, ◌<◌, cond, List, [], ◌∷◌, map, ◌≡◌, eqb, length, drop, set, Some, None, Result, Ok, Err}
+use Rattle.std.specs.Prelude as std
 use Rattle.std.proofs.Math.Option.{Option, none, some}
 use Rattle.token.specs.Token.{leading_word}
 use Rattle.statement.specs.Meaning.{word_with}
@@ -7,16 +8,14 @@ use Rattle.statement.specs.Line.{up_to}
 use Rattle.statement.specs.Evaluation.{LineValue, nothing, label, code}
 use Rattle.statement.specs.Types.{Instruction}
 use Rattle.statement.specs.declared.lines.Line.{Line}
-use Rattle.statement.specs.declared.lines.Line.TheVariants.{Malformed, Blank, Label, Code}
+use Rattle.statement.specs.declared.lines.Line.TheVariants.{Blank, Label, Code}
 use Rattle.assembler.specs.Types.{OperandValues, Pass, Texts, Labels, Words}
 use Rattle.answer.specs.Answer.{bad-source}
 use Rattle.assembler.specs.Source as S
-use Rattle.assembler.specs.Source.{Refusal, at-line, text_number, label_number, word_number, line_in}
+use Rattle.assembler.specs.Source.{Refusal, text_number, label_number, word_number, line_in}
 use Rattle.assembler.specs.Source.{lines_of, labels_of, named, name_number, unknown_in, value_number, value_word}
-use Rattle.assembler.specs.declared.putting.LineWord.{LineWord}
-use Rattle.assembler.specs.declared.putting.LineWord.TheVariants as W
-use Rattle.assembler.specs.declared.lines.Verdict.{Verdict}
-use Rattle.assembler.specs.declared.lines.Verdict.TheVariants.{Accepted, Refused}
+use Rattle.answer.specs.declared.refusal.RefusedLine.{RefusedLine}
+use Rattle.assembler.specs.Into.{refused_at}
 
 -- the bytes before the first LF
 abbrev pub first_text : List ℕ → List ℕ
@@ -51,25 +50,22 @@ line_number_of Words ls k (some (label w)) = none
 line_number_of Words ls k (some (code i f)) = value_number (instruction_word i f k) f.value
 
 -- the code's answers
-abbrev pub judged : ℕ → Option ℕ
-judged n = cond (eqb n 0) none (some n)
-
-abbrev pub verdict_of : Verdict → Option Refusal
-verdict_of Accepted = none
-verdict_of (Refused number line) = some (at-line number line)
+abbrev pub verdict_of : Result Unit RefusedLine → Option Refusal
+verdict_of (Ok u) = none
+verdict_of (Err r) = some (refused_at r)
 
 -- how many labels a line has, and how many words
-abbrev pub labels_in : Line → ℕ
-labels_in Malformed = 0
-labels_in Blank = 0
-labels_in (Label start) = 1
-labels_in (Code i f) = 0
+abbrev pub labels_in : std.Option Line → ℕ
+labels_in None = 0
+labels_in (Some Blank) = 0
+labels_in (Some (Label start)) = 1
+labels_in (Some (Code i f)) = 0
 
-abbrev pub words_in : Line → ℕ
-words_in Malformed = 0
-words_in Blank = 0
-words_in (Label start) = 0
-words_in (Code i f) = 1
+abbrev pub words_in : std.Option Line → ℕ
+words_in None = 0
+words_in (Some Blank) = 0
+words_in (Some (Label start)) = 0
+words_in (Some (Code i f)) = 1
 
 -- the pass that judges labels goes by a table of them
 abbrev pub TableAt : Pass → List ℕ → ℕ → Type 0
@@ -83,11 +79,11 @@ TableFor Labels source labels = entries source labels ≡ labels_of (lines_of so
 TableFor Words source labels = 0 ≤ 0
 
 -- the word of a line behind so many instructions
-abbrev pub line_word : ℕ → Line → Option ℕ
-line_word k Malformed = none
-line_word k Blank = none
-line_word k (Label start) = none
-line_word k (Code i f) = value_word (instruction_word i f k) f.value
+abbrev pub line_word : ℕ → std.Option Line → Option ℕ
+line_word k None = none
+line_word k (Some Blank) = none
+line_word k (Some (Label start)) = none
+line_word k (Some (Code i f)) = value_word (instruction_word i f k) f.value
 
 -- a word stored behind k others, if there is one; that there is room for it; and how many there are then
 abbrev pub stored : ℕ → Option ℕ → List ℕ → List ℕ
@@ -102,6 +98,6 @@ abbrev pub onwards : ℕ → Option ℕ → ℕ
 onwards k none = k
 onwards k (some w) = k + 1
 
-abbrev pub word_found : LineWord → Option ℕ
-word_found (W.Is w) = some w
-word_found W.NoWord = none
+abbrev pub word_found : std.Option ℕ → Option ℕ
+word_found (Some w) = some w
+word_found None = none

@@ -7,25 +7,20 @@ use crate::lines::{labels_in, line_end, words_in};
 use statement::{Line, line_of};
 
 // How many labels and words lines have.
-#[derive(Clone, Copy)]
+#[derive(Clone, Copy, Debug, PartialEq, Eq)]
 pub struct Counts {
     pub labels: usize,
     pub words: usize,
 }
 
 // A line's label entered into a table behind n others, if it has one.
-fn enter(table: &mut [u32], line: Line, start: usize, n: usize, words: usize)
+fn enter(table: &mut [u32], line: Option<Line>, start: usize, n: usize, words: usize)
     requires { (2 * n + 1 < length table.old) × (n ≤ 65537) × (words ≤ 65537) × (start ≤ 65537) × LabelInside 65536 line }
     ensures { table.new ≡ entered line start n words table.old }
 {
-    match line {
-        Line::Malformed => {}
-        Line::Blank => {}
-        Line::Label(at) => {
-            table[2 * n] = (start + at) as u32;
-            table[2 * n + 1] = (4 * words) as u32;
-        }
-        Line::Code(_, _) => {}
+    if let Some(Line::Label(at)) = line {
+        table[2 * n] = (start + at) as u32;
+        table[2 * n + 1] = (4 * words) as u32;
     }
 }
 

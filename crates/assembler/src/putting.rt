@@ -7,52 +7,31 @@ ghost use Rattle.assembler.specs.Walk.{line_word, stored, RoomFor, onwards, word
 
 use crate::lines::{instruction_word, line_end, words_in};
 use expression::Value;
-use isa::Writing;
 use statement::{Line, line_of};
 
-// The word of a line, if it has one.
-#[derive(Clone, Copy)]
-pub enum LineWord {
-    Is(u32),
-    NoWord,
-}
-
-// The word of a line behind so many instructions.
-fn line_word(line: Line, before: usize) -> LineWord
+// The word of a line behind so many instructions, if it has one.
+fn line_word(line: Option<Line>, before: usize) -> Option<u32>
     requires { before ≤ 65537 }
     ensures { word_found result ≡ line_word before line }
 {
     match line {
-        Line::Malformed => LineWord::NoWord,
-        Line::Blank => LineWord::NoWord,
-        Line::Label(_) => LineWord::NoWord,
-        Line::Code(i, f) => {
-            let value = f.value;
-            match value {
-                Value::TooLarge => LineWord::NoWord,
-                Value::Unknown => LineWord::NoWord,
-                Value::Known(number) => {
-                    let word = instruction_word(i, f, before, number);
-                    match word {
-                        Writing::Word(w) => LineWord::Is(w),
-                        Writing::NoWord => LineWord::NoWord,
-                    }
-                }
-            }
-        }
+        Some(Line::Code(i, f)) => match f.value {
+            Value::Known(number) => instruction_word(i, f, before, number),
+            Value::TooLarge | Value::Unknown => None,
+        },
+        _ => None,
     }
 }
 
 // A line's word put into a buffer behind k others, if it has one; how many there are then.
-fn put_line(words: &mut [u32], line: Line, before: usize, k: usize) -> usize
+fn put_line(words: &mut [u32], line: Option<Line>, before: usize, k: usize) -> usize
     requires { (before ≤ 65537) × (k ≤ 65537) × RoomFor (line_word before line) k (length words.old) }
     ensures count { result ≡ onwards k (line_word before line) }
     ensures buffer { words.new ≡ stored k (line_word before line) words.old }
 {
-    let word = line_word(line, before);
-    match word {
-        LineWord::NoWord => k,
-        LineWord::Is(w) => {
+    match line_word(line, before) {
+        None => k,
+        Some(w) => {
             words[k] = w;
             k + 1
         }

@@ -1,45 +1,42 @@
 -- `assemble_lines` meets its contract.
+use Rattle.std.proofs.Common.{length, sym, ◌∙◌}
+use Rattle.std.proofs.lemmas.Result.{err_from_is_err_and}
+use Rattle.answer.specs.Refusal.{row_of}
+use Rattle.expression.specs.Label.{address_in}
+use Rattle.assembler.specs.Source.{lines_of}
 use Rattle.assembler.proofs.Refusals.{labels-refused, words-refused, lines-taken, pass-labels, pass-words}
 use Rattle.assembler.proofs.Counted.{all_words}
-use Rattle.assembler.specs.Source.{at-line, first, lines_of, label_number, word_number}
-use Rattle.expression.specs.Label.{address_in}
-use lib.ListN.{length}
-use mathlib.Core.Option.{none, some}
-use mathlib.Core.Path.{◌≡◌, sym, ◌∙◌}
 use Rattle.assembler.proofs.assembling.assemble_lines.Goals as goal
 
 pub finish-requires : goal.finish-requires
 finish-requires c =
-    let x = c.args in
-    let l = x.source.now in
-    let a = address_in l x.labels.now in
-    let e : none ≡ first (word_number a) (lines_of l) = rw c.in-Accepted-by_words.is at c.first_refused-by_words.ensures ∙ pass-words l a in
-    (c.requires.0, c.requires.2 ∙ sym (all_words a (lines_of l) (sym e)))
+    let l = c.args.source.now in
+    let a = address_in l c.args.labels.now in
+    (c.requires.0, c.requires.2 ∙ sym (all_words a (lines_of l) (sym (c.in_ok-first_refused-2.ensures ∙ pass-words l a))))
 
-pub returns-in-Refused : goal.returns-in-Refused
-returns-in-Refused c =
+pub returns-in_err-first_refused : goal.returns-in_err-first_refused
+returns-in_err-first_refused c =
     let x = c.args in
     let l = x.source.now in
     let a = address_in l x.labels.now in
-    let g = c.in-Refused in
-    let e : some (at-line g.number g.line) ≡ first (label_number a) (lines_of l) = rw g.is at c.first_refused-by_labels.ensures ∙ pass-labels l a in
-    labels-refused a (lines_of l) (length x.words.now) x.words.now g.number g.line e
+    let r = c.in_err-first_refused.field-0.0 in
+    let p = err_from_is_err_and c.from_residual.result c.from_residual.ensures.1 in
+    rw (p.1, p.2)
+    (labels-refused a (lines_of l) (length x.words.now) x.words.now (row_of r.refusal) r.line (c.in_err-first_refused.ensures ∙ pass-labels l a))
 
-pub returns-in-Refused-by_words : goal.returns-in-Refused-by_words
-returns-in-Refused-by_words c =
+pub returns-in_err-first_refused-2 : goal.returns-in_err-first_refused-2
+returns-in_err-first_refused-2 c =
     let x = c.args in
     let l = x.source.now in
     let a = address_in l x.labels.now in
-    let g = c.in-Refused-by_words in
-    let d : none ≡ first (label_number a) (lines_of l) = rw c.in-Accepted.is at c.first_refused-by_labels.ensures ∙ pass-labels l a in
-    let e : some (at-line g.number g.line) ≡ first (word_number a) (lines_of l) = rw g.is at c.first_refused-by_words.ensures ∙ pass-words l a in
-    words-refused a (lines_of l) (length x.words.now) x.words.now g.number g.line d e
+    let r = c.in_err-first_refused-2.field-0.0 in
+    let p = err_from_is_err_and c.from_residual-in_err-first_refused-2.result c.from_residual-in_err-first_refused-2.ensures.1 in
+    rw (p.1, p.2)
+    (words-refused a (lines_of l) (length x.words.now) x.words.now (row_of r.refusal) r.line (c.in_ok-first_refused.ensures ∙ pass-labels l a) (c.in_err-first_refused-2.ensures ∙ pass-words l a))
 
-pub returns-in-Accepted-by_words : goal.returns-in-Accepted-by_words
-returns-in-Accepted-by_words c =
+pub returns : goal.returns
+returns c =
     let x = c.args in
     let l = x.source.now in
     let a = address_in l x.labels.now in
-    let d : none ≡ first (label_number a) (lines_of l) = rw c.in-Accepted.is at c.first_refused-by_labels.ensures ∙ pass-labels l a in
-    let e : none ≡ first (word_number a) (lines_of l) = rw c.in-Accepted-by_words.is at c.first_refused-by_words.ensures ∙ pass-words l a in
-    lines-taken a (lines_of l) (length x.words.now) x.words.now _ d e c.finish.ensures
+    lines-taken a (lines_of l) (length x.words.now) x.words.now _ (c.in_ok-first_refused.ensures ∙ pass-labels l a) (c.in_ok-first_refused-2.ensures ∙ pass-words l a) c.finish.ensures

@@ -1,22 +1,18 @@
 -- `assemble_texts` meets its contract.
+use Rattle.std.proofs.Common.{length}
+use Rattle.std.proofs.lemmas.Result.{err_from_is_err_and}
+use Rattle.answer.specs.Refusal.{row_of}
 use Rattle.assembler.proofs.Refusals.{texts-refused, texts-taken}
-use Rattle.assembler.specs.Source.{at-line, first, texts_of, text_number}
-use lib.ListN.{length}
-use mathlib.Core.Option.{none, some}
-use mathlib.Core.Path.{◌≡◌}
 use Rattle.assembler.proofs.assembling.assemble_texts.Goals as goal
 
-pub returns-in-Refused : goal.returns-in-Refused
-returns-in-Refused c =
+pub returns-in_err-first_refused : goal.returns-in_err-first_refused
+returns-in_err-first_refused c =
     let x = c.args in
-    let l = x.source.now in
-    let g = c.in-Refused in
-    let e : some (at-line g.number g.line) ≡ first text_number (texts_of l) = rw g.is at c.first_refused-by_texts.ensures in
-    texts-refused l (length x.words.now) x.words.now g.number g.line e
+    let r = c.in_err-first_refused.field-0.0 in
+    let p = err_from_is_err_and c.from_residual.result c.from_residual.ensures.1 in
+    rw (p.1, p.2) (texts-refused x.source.now (length x.words.now) x.words.now (row_of r.refusal) r.line c.in_err-first_refused.ensures)
 
-pub returns-in-Accepted : goal.returns-in-Accepted
-returns-in-Accepted c =
+pub returns : goal.returns
+returns c =
     let x = c.args in
-    let l = x.source.now in
-    let e : none ≡ first text_number (texts_of l) = rw c.in-Accepted.is at c.first_refused-by_texts.ensures in
-    texts-taken l (length x.words.now) x.words.now _ e c.assemble_labelled.ensures
+    texts-taken x.source.now (length x.words.now) x.words.now _ c.in_ok-first_refused.ensures c.assemble_labelled.ensures

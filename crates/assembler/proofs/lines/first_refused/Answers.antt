@@ -1,11 +1,11 @@
 -- `first_refused` meets its contract.
 use Rattle.assembler.proofs.Walking.{text_at, text-here, table_at, number_is, words-on, labels-on, few_words, one_label}
 use Rattle.assembler.proofs.Texts.{texts_at, texts-none, texts-all, end-in, walk-on, walk-rest, walk-found, walk_end}
-use Rattle.assembler.specs.Walk.{rule_of, judged}
+use Rattle.answer.specs.Refusal.{row_of}
+use Rattle.assembler.specs.Walk.{rule_of}
 use Rattle.assembler.specs.Source.{texts_of, labels_from, count}
 use Rattle.expression.specs.Label.{address_in}
 use lib.ListN.{take, drop}
-use borrow.Author.Tests.{eq-eqb, ne_eqb}
 use native.Mathlib.Omega.{arith}
 use mathlib.Core.Path.{◌≡◌, refl, sym, ◌∙◌}
 use Prim.Native.Nat.{◌+◌}
@@ -26,14 +26,14 @@ slice_bounds-text-start c = omega (arith, end-in c.args.source.now c.loop-start.
 pub slice_bounds-text-end : goal.slice_bounds-text-end
 slice_bounds-text-end c = omega (arith, end-in c.args.source.now c.loop-start.start c.line_end-end.result (omega arith) c.line_end-end.ensures)
 
-pub judge-number-requires : goal.judge-number-requires
-judge-number-requires c =
+pub judge-requires : goal.judge-requires
+judge-requires c =
     let x = c.args in
     let p = c.loop-start in
     (table_at x.source.now x.labels.now p.before p.n p.invariant.4 x.pass c.requires.1, c.line_of-line.ensures.label, omega arith)
 
-pub returns-then-number-ne0 : goal.returns-then-number-ne0
-returns-then-number-ne0 c =
+pub returns-in-Err : goal.returns-in-Err
+returns-in-Err c =
     let x = c.args in
     let l = x.source.now in
     let a = address_in l x.labels.now in
@@ -41,9 +41,9 @@ returns-then-number-ne0 c =
     let e = c.line_end-end in
     let T = text_at l p.start e.result in
     let here : drop p.before (texts_of l) ≡ T ∷ texts_at l (e.result + 1) = p.invariant.0 ∙ text-here l p.start e.result (omega arith) e.ensures in
-    let num : judged c.judge-number.result ≡ some c.judge-number.result = rw (ne_eqb c.judge-number.result 0 c.if-number-ne0.true) in
-    let rule : rule_of x.pass a (take p.before (texts_of l)) T ≡ some c.judge-number.result = sym (c.judge-number.ensures ∙ number_is l x.labels.now p.before p.n p.invariant.4 x.pass a p.words T c.line_of-line.result c.requires.1 p.invariant.5 c.line_of-line.ensures.line) ∙ num in
-    sym (walk-found (texts_of l) p.before T (texts_at l (e.result + 1)) here (rule_of x.pass a) c.judge-number.result rule) ∙ p.invariant.1
+    let n = row_of c.in-Err.refusal in
+    let rule : rule_of x.pass a (take p.before (texts_of l)) T ≡ some n = sym (c.in-Err.ensures ∙ number_is l x.labels.now p.before p.n p.invariant.4 x.pass a p.words T c.line_of-line.result c.requires.1 p.invariant.5 c.line_of-line.ensures.line) in
+    sym (walk-found (texts_of l) p.before T (texts_at l (e.result + 1)) here (rule_of x.pass a) n rule) ∙ p.invariant.1
 
 pub overflow_add-n : goal.overflow_add-n
 overflow_add-n c = omega (arith, c.labels_in-n.ensures, one_label c.line_of-line.result)
@@ -67,8 +67,7 @@ loop-start-preserved c =
     let r = c.line_of-line.result in
     let T = text_at l p.start e.result in
     let here : drop p.before (texts_of l) ≡ T ∷ texts_at l (e.result + 1) = p.invariant.0 ∙ text-here l p.start e.result (omega arith) e.ensures in
-    let num : judged c.judge-number.result ≡ none = rw (eq-eqb c.judge-number.result 0 c.if-number-ne0.false) in
-    let rule : rule_of x.pass a (take p.before (texts_of l)) T ≡ none = sym (c.judge-number.ensures ∙ number_is l x.labels.now p.before p.n p.invariant.4 x.pass a p.words T r c.requires.1 p.invariant.5 c.line_of-line.ensures.line) ∙ num in
+    let rule : rule_of x.pass a (take p.before (texts_of l)) T ≡ none = sym (c.in_default.ensures ∙ number_is l x.labels.now p.before p.n p.invariant.4 x.pass a p.words T r c.requires.1 p.invariant.5 c.line_of-line.ensures.line) in
     let h = end-in l p.start e.result (omega arith) e.ensures in
     let m = c.labels_in-n.ensures in
     let w = c.words_in-words.ensures in

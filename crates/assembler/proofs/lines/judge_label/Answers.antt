@@ -1,17 +1,14 @@
 -- `judge_label` meets its contract.
-use Rattle.assembler.proofs.Tables.{address_is, unknown-is, known_is, name-beyond, name-again, name_new, text-word, so-many}
-use Rattle.assembler.specs.Walk.{entries}
-use Rattle.assembler.specs.Source.{is_known}
-use Rattle.assembler.specs.Types.{Unknown}
-use Rattle.token.proofs.Runs.{run_fits}
-use Rattle.expression.specs.Value.{label_value}
-use Rattle.token.specs.Token.{leading_word}
-use Rattle.expression.specs.Label.{address_in}
+use Rattle.std.proofs.Common.{◌≡◌, ◌*◌, take, drop, sym, ap, ◌∙◌, arith}
 use lib.Seq.{length-take-le}
-use lib.ListN.{take, drop}
-use mathlib.Core.Path.{◌≡◌, sym, ap, ◌∙◌}
-use Prim.Native.Nat.{◌*◌}
-use native.Mathlib.Omega.{arith}
+use Rattle.token.specs.Token.{leading_word}
+use Rattle.token.proofs.Runs.{run_fits}
+use Rattle.expression.specs.Label.{address_in}
+use Rattle.expression.specs.Value.{label_value}
+use Rattle.assembler.specs.Types.{Unknown}
+use Rattle.assembler.specs.Source.{is_known}
+use Rattle.assembler.specs.Walk.{entries}
+use Rattle.assembler.proofs.Tables.{address_is, unknown-is, known_is, not_unknown, name-beyond, name-again, name_new, text-word, so-many}
 use Rattle.assembler.proofs.lines.judge_label.Goals as goal
 
 pub returns-then-n-ge256 : goal.returns-then-n-ge256
@@ -33,17 +30,9 @@ returns-in-Known c =
     let s = x.source.now in
     let t = take (2 * x.n) x.labels.now in
     let w = leading_word (drop x.start x.text.now) in
-    let v = c.value_of_label-known.ensures ∙ ap (λ y. label_value (address_in s t y)) (text-word x.text.now x.start c.past_run-stop.result c.past_run-stop.ensures) in
-    sym (name-again (entries s t) w (ap is_known (sym (address_is s t w)) ∙ known_is (address_in s t w) _ (rw c.in-Known.is) v))
-
-pub returns-in-TooLarge : goal.returns-in-TooLarge
-returns-in-TooLarge c =
-    let x = c.args in
-    let s = x.source.now in
-    let t = take (2 * x.n) x.labels.now in
-    let w = leading_word (drop x.start x.text.now) in
-    let v = c.value_of_label-known.ensures ∙ ap (λ y. label_value (address_in s t y)) (text-word x.text.now x.start c.past_run-stop.result c.past_run-stop.ensures) in
-    sym (name-again (entries s t) w (ap is_known (sym (address_is s t w)) ∙ known_is (address_in s t w) _ (rw c.in-TooLarge.is) v))
+    let k = c.value_of_label in
+    let v = k.ensures.value ∙ ap (λ y. label_value (address_in s t y)) (text-word x.text.now x.start c.past_run-stop.result c.past_run-stop.ensures) in
+    sym (name-again (entries s t) w (ap is_known (sym (address_is s t w)) ∙ known_is (address_in s t w) k.result (not_unknown k.result c.in-Known.is) v))
 
 pub returns-in-Unknown : goal.returns-in-Unknown
 returns-in-Unknown c =
@@ -51,5 +40,5 @@ returns-in-Unknown c =
     let s = x.source.now in
     let t = take (2 * x.n) x.labels.now in
     let w = leading_word (drop x.start x.text.now) in
-    let v : Unknown ≡ label_value (address_in s t w) = sym c.in-Unknown.is ∙ c.value_of_label-known.ensures ∙ ap (λ y. label_value (address_in s t y)) (text-word x.text.now x.start c.past_run-stop.result c.past_run-stop.ensures) in
+    let v : Unknown ≡ label_value (address_in s t w) = c.in-Unknown.ensures.value ∙ ap (λ y. label_value (address_in s t y)) (text-word x.text.now x.start c.past_run-stop.result c.past_run-stop.ensures) in
     sym (name_new (entries s t) w (ap is_known (sym (address_is s t w)) ∙ unknown-is (address_in s t w) v) (omega (arith, so-many s x.labels.now x.n c.requires.0)))
