@@ -2,17 +2,15 @@
 #![tactic(auto)]
 
 use answer::PROGRAM_WORDS;
-use assembler::Assembly;
 
 // One byte more than a source may have, so that a longer one is seen, and refused.
 const ROOM: usize = 65537;
 
 fn assemble(rt: &(impl Print + Eprint), source: &[u8]) {
     let mut words = [0u32; PROGRAM_WORDS];
-    let answer = assembler::assemble(source, &mut words);
-    match answer {
-        Assembly::Refused(number, line) => files::refuse_at(rt, line, number),
-        Assembly::Assembled(count) => files::write_words(rt, &words[..count]),
+    match assembler::assemble(source, &mut words) {
+        Ok(count) => files::write_words(rt, &words[..count]),
+        Err(refused) => files::refuse_at(rt, refused.line, refused.refusal.number()),
     }
 }
 

@@ -2,21 +2,19 @@
 ghost use Rattle.std.specs.Prelude.{◌≡◌};
 ghost use Rattle.capi_assembler.specs.Calls.{took, assemble_call};
 
-use assembler::Assembly;
-
 // Assembles a source; the result is its words, and the line that is refused.
+#[tactic(auto, unfolding(crate::specs::Calls::assemble_call))]
 pub fn korvammel_assemble(source: &[u8], program: &mut [u32], res: &mut [usize; 2]) -> u32
     ensures { took result res.new program.new ≡ assemble_call source.now program.old }
 {
-    let answer = assembler::assemble(source, program);
-    match answer {
-        Assembly::Assembled(count) => {
+    match assembler::assemble(source, program) {
+        Ok(count) => {
             *res = [count, 0];
             0
         }
-        Assembly::Refused(number, line) => {
-            *res = [0, line];
-            number as u32
+        Err(refused) => {
+            *res = [0, refused.line];
+            u32::from(refused.refusal.number())
         }
     }
 }

@@ -4,7 +4,7 @@ use Rattle.text.proofs.Shown.{shown}
 use Rattle.asm.proofs.assemble.Goals as goal
 
 pub slice_bounds-words-end : goal.slice_bounds-words-end
-slice_bounds-words-end g c = words-within _ _ _ _ _ c.assemble-answer.ensures c.in-Assembled.is
+slice_bounds-words-end g c = words-within _ _ _ _ _ c.assemble.ensures c.in-Ok.is
 
 pub slice_bounds-write_words-end : goal.slice_bounds-write_words-end
-slice_bounds-write_words-end g c = shown _ _ (words-within _ _ _ _ _ c.assemble-answer.ensures c.in-Assembled.is)
+slice_bounds-write_words-end g c = shown _ _ (words-within _ _ _ _ _ c.assemble.ensures c.in-Ok.is)
