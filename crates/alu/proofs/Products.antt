@@ -30,10 +30,6 @@ high x y s t =
     ∙ ap (λ (n : ℕ). n % 2 ^ 32) (sym (add_assoc (x * y / 2 ^ 32) (x * t + s * y) (s * (t * 2 ^ 32))) ∙ ap (λ (n : ℕ). x * y / 2 ^ 32 + (x * t + s * y) + n) (sym (mul_assoc s t (2 ^ 32))))
     ∙ add-mul-mod_self_right (x * y / 2 ^ 32 + (x * t + s * y)) (s * t) (2 ^ 32)
 
--- a wrapping difference, from what it gives with the number taken off
-pub difference : (a b r : ℕ) → b < 2 ^ 32 → r < 2 ^ 32 → (r + b) % 2 ^ 32 ≡ a → r ≡ binary Sub a b
-difference a b r hb hr e = omega arith
-
 -- the signed high half from the unsigned one: each negative operand takes the other off
 by_sign : (x y : ℕ) (p q : Bool) → x < 2 ^ 32 → y < 2 ^ 32
     → cond p (x + (2 ^ 64 - 2 ^ 32)) x * cond q (y + (2 ^ 64 - 2 ^ 32)) y % 2 ^ 64 / 2 ^ 32

@@ -7,13 +7,13 @@ ghost use Rattle.alu.specs.Binary.{binary};
 pub fn mullo(x: u32, y: u32) -> u32
     ensures { result ≡ binary Mullo x y }
 {
-    ((x as u64) * (y as u64) % 4294967296) as u32
+    x.wrapping_mul(y)
 }
 
 pub fn mulhu(x: u32, y: u32) -> u32
     ensures { result ≡ binary Mulhu x y }
 {
-    ((x as u64) * (y as u64) / 4294967296) as u32
+    (u64::from(x) * u64::from(y) / 4294967296) as u32
 }
 
 // What the signed high half lacks of the unsigned one for the sign of x: x is then 2^32 too large.
@@ -26,6 +26,7 @@ fn excess(x: u32, y: u32) -> u32
 pub fn mulhi(x: u32, y: u32) -> u32
     ensures { result ≡ binary Mulhi x y }
 {
-    let h = std::num::wrapping_sub_u32(mulhu(x, y), excess(x, y));
-    std::num::wrapping_sub_u32(h, excess(y, x))
+    mulhu(x, y)
+        .wrapping_sub(excess(x, y))
+        .wrapping_sub(excess(y, x))
 }

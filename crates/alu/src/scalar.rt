@@ -18,18 +18,15 @@ pub fn integer(op: BinaryOp, x: u32, y: u32) -> u32
         BinaryOp::Or => x | y,
         BinaryOp::And => x & y,
         BinaryOp::Xor => x ^ y,
-        BinaryOp::Add => std::num::wrapping_add_u32(x, y),
-        BinaryOp::Sub => std::num::wrapping_sub_u32(x, y),
+        BinaryOp::Add => x.wrapping_add(y),
+        BinaryOp::Sub => x.wrapping_sub(y),
         BinaryOp::Mullo => mullo(x, y),
         BinaryOp::Mulhi => mulhi(x, y),
         BinaryOp::Mulhu => mulhu(x, y),
         BinaryOp::Ashr => ashr(x, y),
         BinaryOp::Shr => shr(x, y),
         BinaryOp::Shl => shl(x, y),
-        BinaryOp::Fadd => 0,
-        BinaryOp::Fsub => 0,
-        BinaryOp::Fmul => 0,
-        BinaryOp::Fdiv => 0,
+        BinaryOp::Fadd | BinaryOp::Fsub | BinaryOp::Fmul | BinaryOp::Fdiv => 0,
     }
 }
 
@@ -38,44 +35,21 @@ pub fn arithmetic(op: BinaryOp, x: u32, y: u32) -> u32
     ensures { result ≡ arithmetic op x y }
 {
     match op {
-        BinaryOp::Or => 0,
-        BinaryOp::And => 0,
-        BinaryOp::Xor => 0,
-        BinaryOp::Add => 0,
-        BinaryOp::Sub => 0,
-        BinaryOp::Mullo => 0,
-        BinaryOp::Mulhi => 0,
-        BinaryOp::Mulhu => 0,
-        BinaryOp::Ashr => 0,
-        BinaryOp::Shr => 0,
-        BinaryOp::Shl => 0,
         BinaryOp::Fadd => fadd(x, y),
         BinaryOp::Fsub => fsub(x, y),
         BinaryOp::Fmul => fmul(x, y),
         BinaryOp::Fdiv => fdiv(x, y),
+        _ => 0,
     }
 }
 
 fn is_float(op: BinaryOp) -> bool
     ensures { result ≡ is_float op }
 {
-    match op {
-        BinaryOp::Or => false,
-        BinaryOp::And => false,
-        BinaryOp::Xor => false,
-        BinaryOp::Add => false,
-        BinaryOp::Sub => false,
-        BinaryOp::Mullo => false,
-        BinaryOp::Mulhi => false,
-        BinaryOp::Mulhu => false,
-        BinaryOp::Ashr => false,
-        BinaryOp::Shr => false,
-        BinaryOp::Shl => false,
-        BinaryOp::Fadd => true,
-        BinaryOp::Fsub => true,
-        BinaryOp::Fmul => true,
-        BinaryOp::Fdiv => true,
-    }
+    matches!(
+        op,
+        BinaryOp::Fadd | BinaryOp::Fsub | BinaryOp::Fmul | BinaryOp::Fdiv
+    )
 }
 
 pub fn binary(op: BinaryOp, x: u32, y: u32) -> u32
@@ -92,13 +66,12 @@ pub fn integer_unary(op: UnaryOp, x: u32) -> u32
     ensures { result ≡ integer_unary op x }
 {
     match op {
-        UnaryOp::Clz => u32::leading_zeros(x),
-        UnaryOp::Ctz => u32::trailing_zeros(x),
+        UnaryOp::Clz => x.leading_zeros(),
+        UnaryOp::Ctz => x.trailing_zeros(),
         UnaryOp::Move => x,
         UnaryOp::Sext8 => sext8(x),
         UnaryOp::Sext16 => sext16(x),
-        UnaryOp::IntToFloat => 0,
-        UnaryOp::FloatToInt => 0,
+        UnaryOp::IntToFloat | UnaryOp::FloatToInt => 0,
     }
 }
 
@@ -107,28 +80,16 @@ pub fn conversion(op: UnaryOp, x: u32) -> u32
     ensures { result ≡ conversion op x }
 {
     match op {
-        UnaryOp::Clz => 0,
-        UnaryOp::Ctz => 0,
-        UnaryOp::Move => 0,
-        UnaryOp::Sext8 => 0,
-        UnaryOp::Sext16 => 0,
         UnaryOp::IntToFloat => i32tof32(x),
         UnaryOp::FloatToInt => f32toi32(x),
+        _ => 0,
     }
 }
 
 fn is_conversion(op: UnaryOp) -> bool
     ensures { result ≡ is_conversion op }
 {
-    match op {
-        UnaryOp::Clz => false,
-        UnaryOp::Ctz => false,
-        UnaryOp::Move => false,
-        UnaryOp::Sext8 => false,
-        UnaryOp::Sext16 => false,
-        UnaryOp::IntToFloat => true,
-        UnaryOp::FloatToInt => true,
-    }
+    matches!(op, UnaryOp::IntToFloat | UnaryOp::FloatToInt)
 }
 
 pub fn unary(op: UnaryOp, x: u32) -> u32

@@ -18,11 +18,11 @@ pub fn ashr(x: u32, y: u32) -> u32
 pub fn shr(x: u32, y: u32) -> u32
     ensures { result ≡ binary Shr x y }
 {
-    x >> (y % 32)
+    x.wrapping_shr(y)
 }
 
 pub fn shl(x: u32, y: u32) -> u32
     ensures { result ≡ binary Shl x y }
 {
-    x << (y % 32)
+    x.wrapping_shl(y)
 }

@@ -2,14 +2,10 @@
 use Rattle.std.proofs.Common.{sym, ◌∙◌, ap₂, rules}
 use Rattle.isa.specs.declared.instruction.BinaryOp.TheVariants.{Sub}
 use Rattle.alu.specs.Binary.{binary}
-use Rattle.alu.proofs.Products.{difference, mulhi-is}
+use Rattle.alu.proofs.Products.{mulhi-is}
 use Rattle.alu.proofs.product.mulhi.Goals as goal
 
 pub returns : goal.returns
 returns c =
-    difference _ _ _ (search rules) (search rules) c.wrapping_sub_u32.ensures.value
-    ∙ ap₂ (binary Sub)
-    (difference _ _ _ (search rules) (search rules) c.wrapping_sub_u32-h.ensures.value
-    ∙ ap₂ (binary Sub) c.mulhu.ensures c.excess.ensures)
-    c.excess-2.ensures
+    ap₂ (binary Sub) (ap₂ (binary Sub) c.mulhu.ensures c.excess.ensures) c.excess-2.ensures
     ∙ sym (mulhi-is c.args.x c.args.y (search rules) (search rules))
