@@ -1,15 +1,14 @@
 -- The compares of whole numbers by three of them: with the operands turned, or negated.
-use Rattle.std.proofs.Common.{◌≡◌, ℕ, zero, suc, ◌+◌, ◌-◌, ◌*◌, ◌^◌, ◌<◌, ◌≤◌, ◌⊎◌, inl, inr, Bool, true, false, cond, not, ltb, leb, List, refl, ap, ◌∙◌, pow-suc, arith, ltb-false, ltb-true, le-leb}
+use Rattle.std.proofs.Common.{◌≡◌, ℕ, zero, suc, ◌+◌, ◌-◌, ◌*◌, ◌^◌, ◌≤◌, Bool, true, false, cond, not, ltb, leb, List, refl, ap, ◌∙◌, pow-suc, arith, ltb-false, ltb-true, le-leb}
 use borrow.Author.Tests.{lt-leb}
 use lib.Bits.{bit_and}
 use Rattle.compares.proofs.Flags.{masked}
 use Rattle.compares.specs.Lanes.{mask_below, compare_lanes}
 use Rattle.compares.specs.Outcome.{answers_of}
-use Rattle.isa.specs.Table.{row_r}
 use Rattle.ordering.specs.Compare.{compare}
 use Rattle.twos_complement.specs.Word.{rank}
 use Rattle.vector.specs.Lanes.{lane}
-use Rattle.fast_path.specs.Types.{Compare, CompareOp, Eq, Ne, Gt, Ge, Lt, Le, Ugt, Uge, Ult, Ule, Feq, Fne, Fgt, Fge, Flt, Fle}
+use Rattle.fast_path.specs.Types.{CompareOp, Eq, Ne, Gt, Ge, Lt, Le, Ugt, Uge, Ult, Ule}
 
 -- the bits of two answers of which exactly one holds
 one_of_two : (b : Bool) (p m n : ℕ) → m + n + 1 ≡ p → m + cond (not b) p 0 + (n + cond b p 0) + 1 ≡ 2 * p
@@ -89,13 +88,3 @@ module _ (x y : List ℕ) where
 pub masks : (op : CompareOp) (mask : ℕ) (x y : List ℕ) → bit_and (answers_of op x y) mask ≡ compare_lanes op mask x y
 unfolding answers_of compare_lanes
 masks op mask x y = masked 16 mask (λ j. compare op (lane x j) (lane y j))
-
--- the compares of floats have the higher opcodes
-pub no-float : (op : CompareOp) → (row_r (Compare op)).opcode < 24 →
-    (op ≡ Feq) ⊎ ((op ≡ Fne) ⊎ ((op ≡ Fgt) ⊎ ((op ≡ Fge) ⊎ ((op ≡ Flt) ⊎ (op ≡ Fle))))) → ⊥
-no-float op h (inl e) = omega (arith, rw e at h)
-no-float op h (inr (inl e)) = omega (arith, rw e at h)
-no-float op h (inr (inr (inl e))) = omega (arith, rw e at h)
-no-float op h (inr (inr (inr (inl e)))) = omega (arith, rw e at h)
-no-float op h (inr (inr (inr (inr (inl e))))) = omega (arith, rw e at h)
-no-float op h (inr (inr (inr (inr (inr e))))) = omega (arith, rw e at h)

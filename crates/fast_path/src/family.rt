@@ -6,7 +6,7 @@ ghost use Rattle.fast_path.specs.Action.{HasOpcode, ActsOn, ActsAnywhere};
 ghost use Rattle.fast_path.specs.Types.{Next, Jump, Binary, Unary, Compare, Load};
 
 use crate::action::Action;
-use crate::{field, registers};
+use crate::field;
 use isa::{BinaryOp, CompareOp, JumpOp, LoadOp, MoveiOp, UnaryOp};
 
 pub fn binary_r(regs: &[u32], t: usize, w: u32, op: BinaryOp) -> Action
@@ -16,8 +16,8 @@ pub fn binary_r(regs: &[u32], t: usize, w: u32, op: BinaryOp) -> Action
     if field::flags_r(w) != 0 {
         return Action::Lanes;
     }
-    let x = registers::operand_a(regs, t, w);
-    let y = registers::operand_b(regs, t, w);
+    let x = execution::scalar(regs, t, field::second(w));
+    let y = execution::scalar(regs, t, field::third(w));
     Action::Write(alu::binary(op, x, y))
 }
 
@@ -28,7 +28,7 @@ pub fn binary_i(regs: &[u32], t: usize, w: u32, op: BinaryOp) -> Action
     if field::flags_i(w) != 0 {
         return Action::Lanes;
     }
-    let x = registers::operand_a(regs, t, w);
+    let x = execution::scalar(regs, t, field::second(w));
     let y = word_layout::short_signed(w);
     Action::Write(alu::binary(op, x, y))
 }
@@ -41,7 +41,7 @@ pub fn unary_r(regs: &[u32], t: usize, w: u32, op: UnaryOp) -> Action
     if w % 4096 != 0 {
         return Action::Defer;
     }
-    let x = registers::operand_a(regs, t, w);
+    let x = execution::scalar(regs, t, field::second(w));
     Action::Write(alu::unary(op, x))
 }
 
@@ -52,8 +52,8 @@ pub fn compare_r(regs: &[u32], t: usize, w: u32, op: CompareOp) -> Action
     if field::flags_r(w) != 0 {
         return Action::Lanes;
     }
-    let x = registers::operand_a(regs, t, w);
-    let y = registers::operand_b(regs, t, w);
+    let x = execution::scalar(regs, t, field::second(w));
+    let y = execution::scalar(regs, t, field::third(w));
     Action::Write(u32::from(ordering::compare(op, x, y)))
 }
 
@@ -64,7 +64,7 @@ pub fn compare_i(regs: &[u32], t: usize, w: u32, op: CompareOp) -> Action
     if field::flags_i(w) != 0 {
         return Action::Lanes;
     }
-    let x = registers::operand_a(regs, t, w);
+    let x = execution::scalar(regs, t, field::second(w));
     let y = word_layout::short_signed(w);
     Action::Write(u32::from(ordering::compare(op, x, y)))
 }
@@ -76,7 +76,7 @@ pub fn move_immediate(regs: &[u32], t: usize, w: u32, op: MoveiOp) -> Action
     if w % 4 != 0 {
         return Action::Defer;
     }
-    let old = registers::operand_d(regs, t, w);
+    let old = execution::scalar(regs, t, field::first(w));
     Action::Write(execution::replace(op, old, isa::movei_number(op, w)))
 }
 
@@ -97,7 +97,7 @@ pub fn jump(regs: &[u32], t: usize, w: u32, op: JumpOp) -> Action
     ensures { ActsAnywhere t w regs.now result }
 {
     let register = field::first(w);
-    let x = registers::operand_d(regs, t, w);
+    let x = execution::scalar(regs, t, register);
     let offset = word_layout::long_signed(w);
     match op {
         JumpOp::Jmp => if register == 0 {
@@ -119,7 +119,7 @@ pub fn load(regs: &[u32], memory: &[u8], t: usize, w: u32, op: LoadOp) -> Action
     if field::flags_i(w) != 0 {
         return Action::Defer;
     }
-    let base = registers::operand_a(regs, t, w);
+    let base = execution::scalar(regs, t, field::second(w));
     let offset = word_layout::short_signed(w);
     match memory::load(op, memory, base, offset) {
         Ok(x) => Action::Write(x),

@@ -48,8 +48,8 @@ fn store(regs: &mut [u32], memory: &mut [u8], t: usize, pc: u32, w: u32, op: Sto
     if field::flags_i(w) != 0 {
         return false;
     }
-    let base = registers::operand_a(regs, t, w);
-    let x = registers::operand_d(regs, t, w);
+    let base = execution::scalar(regs, t, field::second(w));
+    let x = execution::scalar(regs, t, field::first(w));
     let offset = word_layout::short_signed(w);
     match memory::store(op, memory, base, offset, x) {
         Ok(()) => registers::go_on(regs, t, pc),

@@ -108,8 +108,8 @@ fn binary_vectors(regs: &mut [u32], t: usize, pc: u32, w: u32) -> bool
     if !all_on(regs, t) {
         return false;
     }
-    let x = registers::vector_a(regs, t, w);
-    let y = registers::vector_b(regs, t, w);
+    let x = execution::vector(regs, t, field::second(w));
+    let y = execution::vector(regs, t, field::third(w));
     combine_vectors(regs, t, pc, w, (w / 0x1000000) as u8, x, y)
 }
 
@@ -120,7 +120,7 @@ fn binary_number(regs: &mut [u32], t: usize, pc: u32, w: u32, opcode: u8, n: u32
     if !all_on(regs, t) {
         return false;
     }
-    let x = registers::vector_a(regs, t, w);
+    let x = execution::vector(regs, t, field::second(w));
     combine_number(regs, t, pc, w, opcode, x, n)
 }
 
@@ -237,7 +237,7 @@ fn r_word(regs: &mut [u32], t: usize, pc: u32, w: u32) -> bool
         0b1110 => binary_vectors(regs, t, pc, w),
         0b0110 => compare_vectors(regs, t, pc, w, opcode),
         0b1100 => {
-            let n = registers::operand_b(regs, t, w);
+            let n = execution::scalar(regs, t, field::third(w));
             binary_number(regs, t, pc, w, opcode, n)
         }
         _ => false,
@@ -262,7 +262,7 @@ fn load(regs: &mut [u32], memory: &[u8], t: usize, pc: u32, w: u32) -> bool
         × (w % 2 ^ 3 ≡ 0) }
     ensures { TriedStore t pc w regs.old memory.now result regs.new memory.now }
 {
-    let base = registers::operand_a(regs, t, w);
+    let base = execution::scalar(regs, t, field::second(w));
     let offset = word_layout::short_signed(w);
     match memory::load_lanes(memory, base, offset) {
         Ok(lanes) => put(regs, t, pc, w, lanes),
@@ -276,9 +276,9 @@ fn store(regs: &mut [u32], memory: &mut [u8], t: usize, pc: u32, w: u32) -> bool
         × (w % 2 ^ 3 ≡ 0) }
     ensures { TriedStore t pc w regs.old memory.old result regs.new memory.new }
 {
-    let base = registers::operand_a(regs, t, w);
+    let base = execution::scalar(regs, t, field::second(w));
     let offset = word_layout::short_signed(w);
-    let v = registers::vector_d(regs, t, w);
+    let v = execution::vector(regs, t, field::first(w));
     match memory::store_lanes(memory, base, offset, 65535, v) {
         Ok(()) => registers::go_on(regs, t, pc),
         Err(_) => false,

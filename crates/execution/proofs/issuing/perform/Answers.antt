@@ -1,8 +1,7 @@
 -- `issuing::perform` meets its contract: by the test of the program counter, then by the effect of the word.
-use Rattle.std.proofs.Common.{length, sym, ◌∙◌, arith, rules}
+use Rattle.std.proofs.Common.{sym, ◌∙◌}
 use Rattle.machine.specs.State.{state}
 use Rattle.execution.proofs.Issues.{performs-outside, performs-word}
-use Rattle.execution.proofs.Targets.{before-end}
 use Rattle.execution.proofs.issuing.perform.Goals as goal
 
 -- no word stands there
@@ -14,42 +13,6 @@ returns-then-not-in_program c =
     rw (c.trap.ensures, c.number.ensures)
     (performs-outside a.program.now (state a.machine a.registers.now a.memory.now) a.t a.turns pc.result pc.ensures
     (sym test.ensures ∙ c.if-not-in_program.true))
-
-pub bounds-program-pc : goal.bounds-program-pc
-bounds-program-pc c =
-    let test = c.in_program in
-    omega (
-      arith,
-      before-end (length c.args.program.now) c.scalar-pc.result
-          (sym test.ensures ∙ c.if-not-in_program.false),
-    )
-
-pub word-outcome-requires : goal.word-outcome-requires
-word-outcome-requires c =
-    let test = c.in_program in
-    let pc = c.scalar-pc in (
-      search rules,
-      search rules,
-      omega (
-        arith,
-        c.requires.1,
-        before-end (length c.args.program.now) pc.result
-            (sym test.ensures ∙ c.if-not-in_program.false),
-      ),
-    )
-
-pub settle-requires : goal.settle-requires
-settle-requires c =
-    let test = c.in_program in
-    let pc = c.scalar-pc in (
-      search rules,
-      omega (
-        arith,
-        c.requires.1,
-        before-end (length c.args.program.now) pc.result
-            (sym test.ensures ∙ c.if-not-in_program.false),
-      ),
-    )
 
 -- a word is executed
 pub returns : goal.returns

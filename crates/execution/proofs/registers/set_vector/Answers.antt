@@ -13,6 +13,3 @@ returns c = whole c.loop-j.invariant (search rules)
 
 pub loop-j-init : goal.loop-j-init
 loop-j-init c = start _ _ _
-
-pub shape_of-regs : goal.shape_of-regs
-shape_of-regs c = c.loop-j.invariant.size

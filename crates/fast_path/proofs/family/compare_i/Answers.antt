@@ -12,6 +12,7 @@ returns c memory pc enabled words turns =
       number,
       c.compare.ensures,
       c.short_signed-y.ensures,
-      c.operand_a-x.ensures,
+      c.scalar-x.ensures,
+      c.second.ensures.0,
     )
     (compare-I a.t a.regs.now a.w a.op c.requires.1 low memory pc enabled words turns)

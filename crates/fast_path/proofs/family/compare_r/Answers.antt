@@ -11,7 +11,9 @@ returns c memory pc enabled words turns =
     rw (
       number,
       c.compare.ensures,
-      c.operand_b-y.ensures,
-      c.operand_a-x.ensures,
+      c.scalar-y.ensures,
+      c.scalar-x.ensures,
+      c.second.ensures.0,
+      c.third.ensures.0,
     )
     (compare-R a.t a.regs.now a.w a.op c.requires.1 low memory pc enabled words turns)

@@ -17,13 +17,13 @@ returns-then-register-eq0 c memory pc enabled words turns =
 pub returns-in-Beqz : goal.returns-in-Beqz
 returns-in-Beqz c memory pc enabled words turns =
     let a = c.args in
-    rw (c.branch-x.ensures, c.long_signed-offset.ensures, c.operand_d-x.ensures)
+    rw (c.branch-x.ensures, c.long_signed-offset.ensures, c.scalar-x.ensures, c.first-register.ensures.0)
     (branches a.t a.regs.now a.w (eqb (scalar a.regs.now a.t (bits a.w 23 18)) 0) memory pc enabled words turns
     (jumps a.t a.regs.now a.w Beqz (rw c.in-Beqz.is at c.requires.1) refl memory pc enabled words turns))
 
 pub returns-in-Bnez : goal.returns-in-Bnez
 returns-in-Bnez c memory pc enabled words turns =
     let a = c.args in
-    rw (c.branch-x-in-Bnez.ensures, c.long_signed-offset.ensures, c.operand_d-x.ensures)
+    rw (c.branch-x-in-Bnez.ensures, c.long_signed-offset.ensures, c.scalar-x.ensures, c.first-register.ensures.0)
     (branches a.t a.regs.now a.w (not (eqb (scalar a.regs.now a.t (bits a.w 23 18)) 0)) memory pc enabled words turns
     (jumps a.t a.regs.now a.w Bnez (rw c.in-Bnez.is at c.requires.1) refl memory pc enabled words turns))

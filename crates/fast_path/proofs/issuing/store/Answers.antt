@@ -8,7 +8,7 @@ returns-in-Ok c enabled words turns =
     let a = c.args in
     rw (c.go_on.ensures.0, c.go_on.ensures.1)
     (stores a.t a.regs.now a.w a.op c.requires.2 (sym c.flags_i.ensures ∙ c.if-flags_i-ne0.false) a.memory.now _
-    (rw (← c.short_signed-offset.ensures, ← c.operand_d-x.ensures, ← c.operand_a-base.ensures)
+    (rw (← c.second.ensures.0, ← c.first.ensures.0, ← c.short_signed-offset.ensures, ← c.scalar-x.ensures, ← c.scalar-base.ensures)
     (rw c.in-Ok.is at c.store.ensures))
     a.pc enabled words turns)
 

@@ -1,6 +1,6 @@
 -- `lanes::answers` meets its contract: each compare by one of three, turned or negated.
 use Rattle.std.proofs.Common.{◌∙◌, arith}
-use Rattle.fast_path.proofs.Compares.{at_most, turned, turned-unsigned, not_equal, not-below, not-above, not-below-unsigned, not-above-unsigned, no-float}
+use Rattle.fast_path.proofs.Compares.{at_most, turned, turned-unsigned, not_equal, not-below, not-above, not-below-unsigned, not-above-unsigned}
 use Rattle.fast_path.specs.Types.{Eq, Lt, Ult}
 use Rattle.fast_path.proofs.lanes.answers.Goals as goal
 
@@ -19,9 +19,6 @@ overflow_sub-result-in-Uge c = omega (arith, at_most Ult _ _ _ c.unsigned_below-
 pub overflow_sub-result-in-Ule : goal.overflow_sub-result-in-Ule
 overflow_sub-result-in-Ule c = omega (arith, at_most Ult _ _ _ c.unsigned_below-in-Ule.ensures)
 
-pub returns-in-Eq : goal.returns-in-Eq
-returns-in-Eq c = rw c.in-Eq.is c.equal.ensures
-
 pub returns-in-Ne : goal.returns-in-Ne
 returns-in-Ne c = rw (c.in-Ne.is, c.equal-in-Ne.ensures) (not_equal _ _)
 
@@ -30,9 +27,6 @@ returns-in-Gt c = rw c.in-Gt.is (c.signed_below.ensures ∙ turned _ _)
 
 pub returns-in-Ge : goal.returns-in-Ge
 returns-in-Ge c = rw (c.in-Ge.is, c.signed_below-in-Ge.ensures) (not-below _ _)
-
-pub returns-in-Lt : goal.returns-in-Lt
-returns-in-Lt c = rw c.in-Lt.is c.signed_below-in-Lt.ensures
 
 pub returns-in-Le : goal.returns-in-Le
 returns-in-Le c = rw (c.in-Le.is, c.signed_below-in-Le.ensures) (not-above _ _)
@@ -43,11 +37,5 @@ returns-in-Ugt c = rw c.in-Ugt.is (c.unsigned_below.ensures ∙ turned-unsigned 
 pub returns-in-Uge : goal.returns-in-Uge
 returns-in-Uge c = rw (c.in-Uge.is, c.unsigned_below-in-Uge.ensures) (not-below-unsigned _ _)
 
-pub returns-in-Ult : goal.returns-in-Ult
-returns-in-Ult c = rw c.in-Ult.is c.unsigned_below-in-Ult.ensures
-
 pub returns-in-Ule : goal.returns-in-Ule
 returns-in-Ule c = rw (c.in-Ule.is, c.unsigned_below-in-Ule.ensures) (not-above-unsigned _ _)
-
-pub returns-in-Feq : goal.returns-in-Feq
-returns-in-Feq c = absurd (no-float _ c.requires.3 c.in-Feq.is)

@@ -10,5 +10,5 @@ combine_vectors-requires c =
       c.requires.0,
       c.requires.1,
       sym on.ensures ∙ c.if-not-all_on.false,
-      rw (c.vector_b-y.ensures, c.vector_a-x.ensures) (combines-vectors a.t a.regs.now a.w c.requires.4 c.requires.2 c.requires.3),
+      rw (c.vector-y.ensures, c.vector-x.ensures, c.second.ensures.0, c.third.ensures.0) (combines-vectors a.t a.regs.now a.w c.requires.4 c.requires.2 c.requires.3),
     )

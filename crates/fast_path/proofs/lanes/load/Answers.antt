@@ -10,5 +10,5 @@ returns-in-Ok c enabled words turns =
     rw c.put.ensures.0
     (tries_left a.t a.w a.regs.now a.memory.now (with_lanes_on a.regs.now a.t (bits a.w 23 18) c.in-Ok.lanes)
     (loads-lanes a.t a.regs.now a.w c.requires.4 c.requires.3 a.memory.now c.in-Ok.lanes
-    (rw (← c.operand_a-base.ensures, ← c.short_signed-offset.ensures) (rw c.in-Ok.is at c.load_lanes.ensures)))
+    (rw (← c.second.ensures.0, ← c.scalar-base.ensures, ← c.short_signed-offset.ensures) (rw c.in-Ok.is at c.load_lanes.ensures)))
     a.pc enabled words turns _ c.put.ensures.1)

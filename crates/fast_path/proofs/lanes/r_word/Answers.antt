@@ -13,6 +13,6 @@ binary_number-requires c =
     let a = c.args in (
       c.requires.0,
       c.requires.1,
-      rw c.operand_b-n.ensures
+      rw (c.scalar-n.ensures, c.third.ensures.0)
           (combines-number a.t a.regs.now a.w c.requires.3 c.requires.2 (sym c.flags_r.ensures ∙ c.in-12.is)),
     )

@@ -8,7 +8,7 @@ returns-in-Ok c enabled words turns =
     let a = c.args in
     rw (c.go_on.ensures.0, c.go_on.ensures.1)
     (stores-lanes a.t a.regs.now a.w c.requires.4 c.requires.3 c.requires.2 a.memory.now _
-    (rw (← c.vector_d-v.ensures, ← c.short_signed-offset.ensures, ← c.operand_a-base.ensures)
+    (rw (← c.second.ensures.0, ← c.first.ensures.0, ← c.vector-v.ensures, ← c.short_signed-offset.ensures, ← c.scalar-base.ensures)
     (rw c.in-Ok.is at c.store_lanes.ensures))
     a.pc enabled words turns)
 
