@@ -1,4 +1,5 @@
-// The register file of the eight threads, in the lent register file.
+// The register file of the eight threads, in the lent register file. Its functions take it and a thread's number, and are no methods of a
+// struct of both: such a method would have to say of each part what it leaves, and the struct would hold what is only lent.
 ghost use Rattle.std.specs.Prelude.{◌≡◌, ◌+◌, ◌<◌};
 ghost use Rattle.execution.specs.Registers.{scalar, vector, with_scalar, with_vector, with_lanes_on, with_program_counter, InRegisters};
 
@@ -16,7 +17,8 @@ pub fn set_scalar(regs: &mut [u32], t: usize, i: u32, x: u32)
     requires { InRegisters regs.old t × (i < 64) }
     ensures { regs.new ≡ with_scalar regs.old t i x }
 {
-    regs[64 * t + i as usize] = x;
+    let place = 64 * t + i as usize;
+    regs[place] = x;
 }
 
 pub fn vector(regs: &[u32], t: usize, i: u32) -> [u32; 16]
@@ -33,6 +35,7 @@ pub fn set_vector(regs: &mut [u32], t: usize, i: u32, v: [u32; 16])
     ensures { regs.new ≡ with_vector regs.old t i v }
 {
     let first = 512 + 1024 * t + 16 * (i as usize);
+    // By a loop: what `copy_from_slice` leaves is a list of three parts, and the definition's is one of sixteen writes.
     for (j, x) in v.iter().enumerate() {
         regs[first + j] = *x;
     }

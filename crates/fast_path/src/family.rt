@@ -9,6 +9,8 @@ use crate::action::Action;
 use crate::field;
 use isa::{BinaryOp, CompareOp, JumpOp, LoadOp, MoveiOp, UnaryOp};
 
+// R and I have functions of their own: they differ in the flags, in operand b and in the law of their words, and a function of both with a
+// parameter for each is no plainer.
 pub fn binary_r(regs: &[u32], t: usize, w: u32, op: BinaryOp) -> Action
     requires { InRegisters regs.now t × HasOpcode w 0x00 64 (row_r (Binary op)).opcode }
     ensures { ActsAnywhere t w regs.now result }

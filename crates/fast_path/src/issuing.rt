@@ -11,6 +11,9 @@ use crate::{field, lanes, registers, table};
 use isa::StoreOp;
 use machine::PROGRAM_COUNTER;
 
+// A thread, an address and a word go as three numbers from here on: contracts speak of each by itself, and to a function that stands apart
+// a struct would go by its address.
+
 // The sum wraps: a negative target comes out past the end of every program.
 fn jump(words: usize, regs: &mut [u32], t: usize, pc: u32, offset: u32) -> bool
     requires { InRegisters regs.old t × (words ≤ program_words) × (pc < 65536) }

@@ -73,7 +73,8 @@ fn combine_vectors(
     }
 }
 
-// A vector and a number. It can be shifted too: every lane by the same.
+// A vector and a number. It can be shifted too: every lane by the same. It has a table of its own: with one for both, of operands that are
+// loaded in two ways, the compiler makes no vector instructions (docs/SPEED.md).
 fn combine_number(
     regs: &mut [u32],
     t: usize,
@@ -126,7 +127,8 @@ fn binary_number(regs: &mut [u32], t: usize, pc: u32, w: u32, opcode: u8, n: u32
 
 // The compare of whole numbers that an opcode is, if it is one.
 fn compare_at(opcode: u8) -> Option<CompareOp>
-    ensures { MatchOption result ((opcode < 14) ⊎ (23 < opcode)) (λ op. ((row_r (Compare op)).opcode ≡ opcode) × (opcode < 24)) }
+    ensures { MatchOption result ((opcode < 14) ⊎ (23 < opcode))
+        (λ op. ((row_r (Compare op)).opcode ≡ opcode) × (opcode < 24)) }
 {
     match opcode {
         14 => Some(CompareOp::Eq),
