@@ -2,7 +2,8 @@
 ghost use Rattle.std.specs.Prelude.{◌≡◌};
 ghost use Rattle.float.specs.Floats.{fadd_of, fsub_of, fmul_of, fdiv_of};
 
-use crate::pattern::{pattern_of, value_of};
+// A pattern's value, and a value's pattern, 0x7FC00000 for every NaN.
+use std::num::{f32_from_bits_with_nan as value_of, f32_to_bits_with_nan as pattern_of};
 
 pub fn fadd(a: u32, b: u32) -> u32
     ensures { result ≡ fadd_of a b }

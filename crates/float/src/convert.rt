@@ -10,7 +10,7 @@ fn rounded(a: u32) -> u32
     requires { 0 < a }
     ensures { (result ≡ pattern (Ieee.round binary32 false a 1)) × (result < 2 ^ 31) }
 {
-    let zeros = u32::leading_zeros(a);
+    let zeros = a.leading_zeros();
     let top = a << zeros;
     let digits = top >> 8;
     let carry = (top % 256 + 127 + digits % 2) >> 8;
@@ -21,10 +21,7 @@ fn rounded(a: u32) -> u32
 fn magnitude(w: u32) -> u32
     ensures { result ≡ nat_abs (signed w) }
 {
-    if w < 0x8000_0000 {
-        return w;
-    }
-    0xffff_ffff - w + 1
+    w.cast_signed().unsigned_abs()
 }
 
 // 48: the sign's bit, and the rounded magnitude.
@@ -52,5 +49,5 @@ pub fn f32toi32(b: u32) -> u32
     if b < 0x8000_0000 {
         return a;
     }
-    0xffff_ffff - a + 1
+    a.wrapping_neg()
 }

@@ -4,7 +4,6 @@
 mod arithmetic;
 mod convert;
 mod order;
-mod pattern;
 
 pub use arithmetic::{fadd, fdiv, fmul, fsub};
 pub use convert::{f32toi32, i32tof32};

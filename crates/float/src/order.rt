@@ -2,7 +2,7 @@
 ghost use Rattle.std.specs.Prelude.{◌≡◌};
 ghost use Rattle.float.specs.Floats.{feq_of, fne_of, fgt_of, fge_of, flt_of, fle_of};
 
-use crate::pattern::value_of;
+use std::num::f32_from_bits_with_nan as value_of;
 
 pub fn feq(a: u32, b: u32) -> bool
     ensures { result ≡ feq_of a b }
