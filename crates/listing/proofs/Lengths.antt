@@ -23,9 +23,6 @@ use Rattle.text.specs.Number.{decimal}
 pub take-padded : (n : ℕ) (t : List ℕ) (k : ℕ) → length t ≡ k → take k (padded n t) ≡ t
 take-padded n t k e = take_at t (replicate (n - length t) 0) k e
 
-pub padded-room : (n : ℕ) (t : List ℕ) (k : ℕ) → length t ≡ k → k ≤ length (padded n t)
-padded-room n t k e = rw (length-append t (replicate (n - length t) 0)) (omega arith)
-
 label_small : (a : Answer Instruction) → length (label_of a) ≤ 10
 unfolding bytes
 label_small (given i) = let h = fits i in omega arith
@@ -57,11 +54,5 @@ length-header n small =
 
 -- a name as the code holds it: its bytes are the text
 module _ (r : Name) (t : List ℕ) (e : r ≡ spelled t) where
-  pub name-room : r.len ≤ length r.bytes
-  name-room = rw e (padded-room 16 t (length t) refl)
-
   pub name-taken : take r.len r.bytes ≡ t
   name-taken = rw e (take-padded 16 t (length t) refl)
-
-  pub name-count : r.len ≡ length (take r.len r.bytes)
-  name-count = rw (name-taken, e)

@@ -5,7 +5,7 @@ ghost use Rattle.text.specs.Buffer.{wrote, writes};
 ghost use Rattle.listing.specs.Listing.{columns_of, header, line, printed};
 
 use answer::PROGRAM_WORDS;
-use isa::Reading;
+use isa::Unreadable;
 use little_endian::word_at;
 use text::{hex_of, put_decimal, put_text};
 
@@ -13,11 +13,10 @@ use text::{hex_of, put_decimal, put_text};
 fn columns(address: u32, w: u32) -> [u8; 18]
     ensures { result ≡ columns_of address w }
 {
-    let a = hex_of(address);
-    let h = hex_of(w);
+    let [a0, a1, a2, a3, a4, a5, a6, a7] = hex_of(address);
+    let [w0, w1, w2, w3, w4, w5, w6, w7] = hex_of(w);
     [
-        a[0], a[1], a[2], a[3], a[4], a[5], a[6], a[7], b' ', h[0], h[1], h[2], h[3], h[4], h[5],
-        h[6], h[7], b' ',
+        a0, a1, a2, a3, a4, a5, a6, a7, b' ', w0, w1, w2, w3, w4, w5, w6, w7, b' ',
     ]
 }
 
@@ -46,14 +45,12 @@ fn put_line(out: &mut [u8], at: usize, address: u32, w: u32) -> usize
 {
     let first = columns(address, w);
     match isa::read_word(w) {
-        Reading::Defined(i) => {
+        Ok(i) => {
             let name = names::name_of(i);
-            let bytes = name.bytes;
-            let len = name.len;
-            put_row(out, at, &first, &bytes[..len])
+            put_row(out, at, &first, &name.bytes[..name.len])
         }
-        Reading::Undefined => put_row(out, at, &first, b"undefined"),
-        Reading::NotFitted => put_row(out, at, &first, b"not-fitted"),
+        Err(Unreadable::Undefined) => put_row(out, at, &first, b"undefined"),
+        Err(Unreadable::NotFitted) => put_row(out, at, &first, b"not-fitted"),
     }
 }
 
@@ -64,16 +61,13 @@ pub const LONGEST: usize = 12 + 29 * PROGRAM_WORDS;
 pub fn list(input: &[u8], out: &mut [u8; LONGEST]) -> usize
     ensures { wrote result out.new ≡ printed input.now out.old }
 {
-    let refused = program::bad_bytes(input.len());
-    if refused {
+    if program::bad_bytes(input.len()) {
         return put_text(out, 0, b"refused 1\n");
     }
     let count = input.len() / 4;
     let mut at = put_header(out, count as u32);
-    let mut k = 0;
-    while k < count {
+    for k in 0..count {
         at = put_line(out, at, (4 * k) as u32, word_at(input, 4 * k));
-        k += 1;
     }
     at
 }

@@ -5,4 +5,4 @@ use Rattle.listing.proofs.print.columns.Goals as goal
 
 pub returns : goal.returns
 unfolding columns_of bytes
-returns c = rw (c.hex_of-h.ensures, c.hex_of-a.ensures)
+returns c = rw (c.hex_of-2.ensures, c.hex_of.ensures)

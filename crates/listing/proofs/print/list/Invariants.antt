@@ -1,12 +1,8 @@
 -- `list` meets its contract: after k turns the lines of the first k words stand behind the header.
-use Prim.Native.Nat.{◌-◌, ◌≤◌}
 use mathlib.Core.Path.{◌≡◌}
 use Rattle.text.specs.Buffer.{wrote, writes}
 use Rattle.listing.specs.Listing.{lines}
 use Rattle.listing.proofs.print.list.Given as goal
 
 abbrev pub invariant-loop-k : goal.invariant-loop-k
-invariant-loop-k l = (wrote l.at l.out ≡ writes l.initial.out l.initial.at (lines l.input l.k)) × (l.k ≤ l.count)
-
-abbrev pub decreases-loop-k : goal.decreases-loop-k
-decreases-loop-k l = l.count - l.k
+invariant-loop-k l = wrote l.at l.out ≡ writes l.initial.out l.initial.at (lines l.input l.k)
