@@ -152,36 +152,41 @@ fn flags(yes: bool) -> u32
     if yes { 65535 } else { 0 }
 }
 
-// The answers of all lanes of vectors i and k. Each compare has a closure of its own and loads for itself: only where the compare is known
-// the compiler makes vector instructions of the loop.
-#[tactic(auto, unfolding(compares::specs::Outcome::answers_of))]
+// The answers of all lanes of vectors i and k, whose lanes it loads for itself. It is inlined where the compare is known: only then the
+// compiler makes vector instructions of the loop.
+#[inline(always)]
+fn holding(regs: &[u32], t: usize, op: CompareOp, i: u32, k: u32) -> u32
+    requires { InRegisters regs.now t × (i < 64) × (k < 64) }
+    ensures { result ≡ answers_of op (vector regs.now t i) (vector regs.now t k) }
+{
+    let x = execution::vector(regs, t, i);
+    let y = execution::vector(regs, t, k);
+    let mut r: u32 = 0;
+    for (j, a) in x.iter().enumerate() {
+        r |= flags(ordering::compare(op, *a, y[j])) & (1 << j);
+    }
+    r
+}
+
 fn equal(regs: &[u32], t: usize, i: u32, k: u32) -> u32
     requires { InRegisters regs.now t × (i < 64) × (k < 64) }
     ensures { result ≡ answers_of Eq (vector regs.now t i) (vector regs.now t k) }
 {
-    let x = execution::vector(regs, t, i);
-    let y = execution::vector(regs, t, k);
-    compares::collect(x, y, |a, b| flags(ordering::compare(CompareOp::Eq, a, b)))
+    holding(regs, t, CompareOp::Eq, i, k)
 }
 
-#[tactic(auto, unfolding(compares::specs::Outcome::answers_of))]
 fn signed_below(regs: &[u32], t: usize, i: u32, k: u32) -> u32
     requires { InRegisters regs.now t × (i < 64) × (k < 64) }
     ensures { result ≡ answers_of Lt (vector regs.now t i) (vector regs.now t k) }
 {
-    let x = execution::vector(regs, t, i);
-    let y = execution::vector(regs, t, k);
-    compares::collect(x, y, |a, b| flags(ordering::compare(CompareOp::Lt, a, b)))
+    holding(regs, t, CompareOp::Lt, i, k)
 }
 
-#[tactic(auto, unfolding(compares::specs::Outcome::answers_of))]
 fn unsigned_below(regs: &[u32], t: usize, i: u32, k: u32) -> u32
     requires { InRegisters regs.now t × (i < 64) × (k < 64) }
     ensures { result ≡ answers_of Ult (vector regs.now t i) (vector regs.now t k) }
 {
-    let x = execution::vector(regs, t, i);
-    let y = execution::vector(regs, t, k);
-    compares::collect(x, y, |a, b| flags(ordering::compare(CompareOp::Ult, a, b)))
+    holding(regs, t, CompareOp::Ult, i, k)
 }
 
 // The same of any compare of whole numbers; those of floats don't come here.
