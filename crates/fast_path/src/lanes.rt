@@ -153,7 +153,7 @@ fn flags(yes: bool) -> u32
 }
 
 // The answers of all lanes of vectors i and k, whose lanes it loads for itself. It is inlined where the compare is known: only then the
-// compiler makes vector instructions of the loop.
+// compiler makes vector instructions of the loop. By `compares::collect`, with a closure for each compare, it took 3 to 17 instructions more.
 #[inline(always)]
 fn holding(regs: &[u32], t: usize, op: CompareOp, i: u32, k: u32) -> u32
     requires { InRegisters regs.now t × (i < 64) × (k < 64) }
