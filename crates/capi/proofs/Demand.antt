@@ -22,12 +22,12 @@ use Rattle.machine.specs.Machine.{turns_at, turns_of}
 use Rattle.interpreter.proofs.Refusals.{run-refused}
 use Rattle.interpreter.specs.Answer.{Ending, stopped, stuck, spent}
 use Rattle.interpreter.specs.Demand.{Session}
-use Rattle.interpreter.specs.Refusal.{run_number as interpreter_number}
-use Rattle.interpreter.specs.Run.{Outcome, number, run, run_answer}
+use Rattle.interpreter.specs.Run.{Outcome, run}
 use Rattle.interpreter.specs.Choosing.{ending_at, reached}
 use Rattle.machine.specs.State.{State, state}
 use Rattle.machine.specs.WellFormed.{well_formed}
 use Rattle.machine.specs.declared.record.Machine.{Machine}
+use Rattle.capi.proofs.Running.{run-answer, held-well-formed, held_number}
 use Rattle.capi.specs.Answer.{ending_of}
 use Rattle.capi.specs.Demand.{RunCall, held_in, RunCalls, ending_in, told, as_call, BoardDemandHolds}
 use Rattle.answer.specs.Refusal.{length_checks, lengths_number}
@@ -61,10 +61,6 @@ told-done o e h w counts =
     (λ i. record { answer = a i; issues = o.issues; looks = halves o.looks i; left = state (m i) o.left.registers o.left.memory })
 
 -- the outcome of a run
-run-answer : (p : List ℕ) (b : ℕ) (s : State) → number p s ≡ none → (run p b s).answer ≡ given (ending_at (reached p b s))
-unfolding run run_answer
-run-answer p b s h = rw h
-
 run-well-formed : (p : List ℕ) (b : ℕ) (s : State) → well_formed s.machine ≡ true → well_formed (run p b s).left.machine ≡ true
 unfolding run
 run-well-formed p b s w = stays-well-formed p b s w
@@ -99,8 +95,8 @@ module _ (p : List ℕ) (b : ℕ) (registers memory opening : List ℕ) (h : ope
   abbrev lengths : Option ℕ
   lengths = lengths_number (length p) (length registers) (length memory)
 
-  held-well-formed : well_formed (machine_in no_blocks opening) ≡ true
-  held-well-formed = opening-well-formed opening h
+  formed : well_formed (machine_in no_blocks opening) ≡ true
+  formed = held-well-formed p registers memory opening h
 
   -- the call and the run are refused with the same number
   call-number : run_number p registers memory opening ≡ lengths
@@ -109,10 +105,6 @@ module _ (p : List ℕ) (b : ℕ) (registers memory opening : List ℕ) (h : ope
       first-after (length_checks (length p) (length registers) (length memory)) (opening_checks opening)
       ∙ ap (λ o. refused_or lengths some o) h ∙ or-none lengths
 
-  held_number : number p held ≡ lengths
-  unfolding interpreter_number lengths_number first_that_applies
-  held_number = rw held-well-formed
-
   told-run : told (run_call p b registers memory opening) ≡ run p b held
   unfolding run_call
   told-run = go lengths refl
@@ -120,11 +112,11 @@ module _ (p : List ℕ) (b : ℕ) (registers memory opening : List ℕ) (h : ope
       go : (o : Option ℕ) → lengths ≡ o → told (run_call p b registers memory opening) ≡ run p b held
       go none e =
           ap (λ o. told (refused_or o (λ n. ran n no_result registers memory opening) (done (run p b held)))) (call-number ∙ e)
-          ∙ told-done (run p b held) (ending_at (reached p b held)) (run-answer p b held (held_number ∙ e)) (run-well-formed p b held held-well-formed) (counts-left p b held counts)
+          ∙ told-done (run p b held) (ending_at (reached p b held)) (run-answer p b held (held_number p registers memory opening h ∙ e)) (run-well-formed p b held formed) (counts-left p b held counts)
       go (some n) e =
           ap (λ o. told (refused_or o (λ k. ran k no_result registers memory opening) (done (run p b held)))) (call-number ∙ e)
           ∙ ap (λ x. record { answer = cond x (given spent) (refused n); issues = 0; looks = 0; left = held }) (not-zero _ _ _ n e)
-          ∙ run-refused p b held n (held_number ∙ e)
+          ∙ run-refused p b held n (held_number p registers memory opening h ∙ e)
 
   -- the bytes that a call leaves are accepted
   left-accepted : opening_number (run_call p b registers memory opening).opening ≡ none
@@ -133,7 +125,7 @@ module _ (p : List ℕ) (b : ℕ) (registers memory opening : List ℕ) (h : ope
     where
       go : (o : Option ℕ) → lengths ≡ o → opening_number (run_call p b registers memory opening).opening ≡ none
       go none e =
-          rw (call-number ∙ e) (written-accepted (run p b held).left.machine (run-well-formed p b held held-well-formed) (counts-left p b held counts))
+          rw (call-number ∙ e) (written-accepted (run p b held).left.machine (run-well-formed p b held formed) (counts-left p b held counts))
       go (some n) e = rw (call-number ∙ e) h
 
   -- and hold counts that are words
@@ -144,7 +136,7 @@ module _ (p : List ℕ) (b : ℕ) (registers memory opening : List ℕ) (h : ope
       go : (o : Option ℕ) → lengths ≡ o → Words (turns_of (machine_in no_blocks (run_call p b registers memory opening).opening))
       go none e t =
           let m = (run p b held).left.machine in
-          rw (call-number ∙ e, written_held m (run-well-formed p b held held-well-formed) (counts-left p b held counts)) (counts-left p b held counts t)
+          rw (call-number ∙ e, written_held m (run-well-formed p b held formed) (counts-left p b held counts)) (counts-left p b held counts t)
       go (some n) e t = rw (call-number ∙ e) (counts t)
 
 session : (calls : List RunCall) (registers memory opening : List ℕ) → opening_number opening ≡ none → Words (turns_of (machine_in no_blocks opening))

@@ -1,5 +1,6 @@
 -- The laws that several proofs cite.
 mod Handed
 pub mod Verdicts
+mod Running
 mod Writing
 pub mod Demand

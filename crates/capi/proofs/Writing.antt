@@ -10,14 +10,15 @@ use Rattle.answer.specs.Refusal.{first_that_applies, refused_or, size_checks, si
 use Rattle.answer.proofs.Checks.{first-after, either-given}
 use Rattle.image_layout.specs.Layout.{fixed_of}
 use Rattle.image_layout.specs.declared.layout.Form.{Form}
-use Rattle.image.proofs.Openings.{opening-machine, opening-well-formed}
+use Rattle.image.proofs.Openings.{opening-well-formed}
 use Rattle.image.proofs.Refusals.{record-loses, record-none, write-number, write-by}
-use Rattle.image.specs.Answer.{write_answered}
+use Rattle.std.proofs.Common.{Result}
+use Rattle.answer.specs.declared.refusal.Refusal.{Refusal}
+use Rattle.image.specs.Answer.{answered}
 use Rattle.image.specs.Calls.{WriteResult, written, write_refusal, write_as as wrote}
 use Rattle.image.specs.Image.{image, machine_in}
-use Rattle.image.specs.Opening.{no_blocks, opening_checks, opening_number, read_opening}
+use Rattle.image.specs.Opening.{no_blocks, opening_checks, opening_number}
 use Rattle.image.specs.Refusal.{loses_counts, record_number}
-use Rattle.image.specs.declared.outcome.WriteAnswer.{WriteAnswer}
 use Rattle.machine.specs.State.{State, state}
 use Rattle.machine.specs.WellFormed.{well_formed}
 use Rattle.machine.specs.declared.record.Machine.{Machine}
@@ -79,9 +80,9 @@ module _ (f : Form) (dropping : Bool) (registers memory opening buffer : List �
         sym (ap told (write-by f dropping s buffer none (below none (record-none f dropping m formed e))))
         ∙ answer-by none (call-number none h ∙ ap loss e)
 
-    pub write-handed : (r : WriteAnswer) {n : ℕ} {after : List ℕ} → n ≡ number_of (write_answered r)
-        → written r after ≡ wrote f dropping (state (read_opening opening).machine registers memory) buffer
-        → left n after ≡ write_as f dropping registers memory opening buffer
+    pub write-handed : (r : Result (Unit {0}) Refusal) {x : Machine} {after : List ℕ} → x ≡ m
+        → written r after ≡ wrote f dropping (state x registers memory) buffer
+        → left (number_of (answered r)) after ≡ write_as f dropping registers memory opening buffer
     write-handed r {after = after} e g =
-        let w : written r after ≡ wrote f dropping s buffer = g ∙ ap (λ x. wrote f dropping (state x registers memory) buffer) (opening-machine opening both.1) in
-        ap (λ x. left x after) e ∙ (ap told w ∙ fate (loses_counts f dropping m) refl)
+        let w : written r after ≡ wrote f dropping s buffer = g ∙ ap (λ x. wrote f dropping (state x registers memory) buffer) e in
+        ap told w ∙ fate (loses_counts f dropping m) refl

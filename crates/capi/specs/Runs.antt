@@ -1,10 +1,12 @@
 -- A start and a run, with the machine record as bytes.
-use Rattle.std.specs.Prelude.{ℕ, ◌/◌, ◌%◌, ◌^◌, List, [], ◌∷◌}
-use Rattle.answer.specs.Refusal.{refused_or}
+use Rattle.std.specs.Prelude.{ℕ, ◌/◌, ◌%◌, ◌^◌, List, [], ◌∷◌, Result, Ok, Err}
+use Rattle.answer.specs.Refusal.{row_of, refused_or}
+use Rattle.answer.specs.declared.refusal.Refusal.{Refusal}
 use Rattle.machine.specs.State.{state}
 use Rattle.image.specs.Image.{machine_in}
 use Rattle.image.specs.Opening.{no_blocks, record_bytes}
-use Rattle.interpreter.specs.Run.{Outcome, run}
+use Rattle.interpreter.specs.Run.{Outcome, run_outcome, run}
+use Rattle.interpreter.specs.declared.outcome.Run.{Run}
 use Rattle.interpreter.specs.Start.{Beginning, start}
 use Rattle.capi.specs.Answer.{number_of, ending_of}
 use Rattle.capi.specs.Refusal.{run_number}
@@ -46,6 +48,11 @@ no_result = 0 ∷ 0 ∷ 0 ∷ 0 ∷ []
 
 abbrev pub done : Outcome → Ran
 done o = ran 0 (result_of o) o.left.registers o.left.memory (record_bytes o.left.machine)
+
+-- the same by the code's result: one that is refused leaves the bytes that it got
+abbrev pub called : Result Run Refusal → List ℕ → List ℕ → List ℕ → Ran
+called (Ok r) registers memory opening = done (run_outcome r registers memory)
+called (Err refusal) registers memory opening = ran (row_of refusal) no_result registers memory opening
 
 -- "A refusal changes no lent buffer and hands back the record it got"; "A refused run reports 0 issues"; and of looks "a refused call
 -- reports 0" (02, T-13)

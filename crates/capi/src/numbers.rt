@@ -1,54 +1,31 @@
 // Answers as the numbers that the calls give back: 0, or a number of document 01's table.
 ghost use Rattle.std.specs.Prelude.{◌/◌, ◌%◌, ◌^◌, ◌≡◌};
-ghost use Rattle.image.specs.Answer.{write_answered, read_answered};
-ghost use Rattle.interpreter.specs.Answer.{start_answered, answered};
+ghost use Rattle.answer.specs.Answer.{given};
+ghost use Rattle.image.specs.Answer.{answered};
+ghost use Rattle.interpreter.specs.Answer.{ending_of as stop_of};
 ghost use Rattle.capi.specs.Answer.{number_of, ending_of};
 
-use image::{ReadAnswer, WriteAnswer};
-use interpreter::{RunAnswer, StartAnswer};
+use answer::Refusal;
+use interpreter::Stop;
 
-pub fn wide(n: u8) -> u32
-    ensures { result ≡ n }
-{
-    n as u32
-}
-
-pub fn start_number(answer: StartAnswer) -> u32
-    ensures { result ≡ number_of (start_answered answer) }
+// What a call answers.
+pub fn number<T>(answer: &Result<T, Refusal>) -> u32
+    ensures { result ≡ number_of (answered answer.now) }
 {
     match answer {
-        StartAnswer::Started => 0,
-        StartAnswer::Refused(number) => wide(number),
+        Ok(_) => 0,
+        Err(refusal) => refusal.number() as u32,
     }
 }
 
-pub fn write_number(answer: WriteAnswer) -> u32
-    ensures { result ≡ number_of (write_answered answer) }
+// How a run that is not refused ended.
+pub fn ending(stop: Stop) -> u32
+    ensures { result ≡ ending_of (given (stop_of stop)) }
 {
-    match answer {
-        WriteAnswer::Written => 0,
-        WriteAnswer::Refused(number) => wide(number),
-    }
-}
-
-pub fn read_number(answer: ReadAnswer) -> u32
-    ensures { result ≡ number_of (read_answered answer) }
-{
-    match answer {
-        ReadAnswer::Restored => 0,
-        ReadAnswer::Refused(number) => wide(number),
-    }
-}
-
-// How a run ended.
-pub fn ending(answer: RunAnswer) -> u32
-    ensures { result ≡ ending_of (answered answer) }
-{
-    match answer {
-        RunAnswer::Refused(_) => 0,
-        RunAnswer::Stopped => 1,
-        RunAnswer::Stuck => 2,
-        RunAnswer::Spent => 3,
+    match stop {
+        Stop::Stopped => 1,
+        Stop::Stuck => 2,
+        Stop::Spent => 3,
     }
 }
 

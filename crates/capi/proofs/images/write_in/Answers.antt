@@ -1,27 +1,40 @@
--- `images::write_in` meets its contract: by the verdict.
+-- `images::write_in` meets its contract: by the verdicts.
 use mathlib.Core.Path.{sym, ap, ◌∙◌}
 use lib.ListN.{length}
-use Rattle.answer.specs.Left.{left}
-use Rattle.answer.specs.Refusal.{first_that_applies, number_of}
-use Rattle.image.specs.Calls.{write_as}
-use Rattle.machine.specs.State.{state}
-use Rattle.capi.specs.Refusal.{record_checks}
+use Rattle.std.proofs.lemmas.Result.{err_from_is_err_and}
+use Rattle.answer.specs.Refusal.{row_of, size_checks, sizes_number}
+use Rattle.image_layout.specs.Layout.{fixed_of}
+use Rattle.machine.specs.Machine.{zeroed}
+use Rattle.capi.proofs.Verdicts.{lengths-refused, record-refused, all-accepted, machine-is}
 use Rattle.capi.proofs.Writing.{refused-before, write-handed}
 use Rattle.capi.proofs.images.write_in.Goals as goal
 
-pub returns-in-Refused : goal.returns-in-Refused
-returns-in-Refused c =
+pub returns-in_err-sizes_verdict : goal.returns-in_err-sizes_verdict
+unfolding sizes_number
+returns-in_err-sizes_verdict c =
     let a = c.args in
-    let fixed = ap (λ n. first_that_applies (record_checks n (length a.registers.now) (length a.memory.now) (length a.buffer.now) a.bytes.now)) c.fixed_part.ensures in
-    ap (λ n. left n a.buffer.now) c.wide.ensures
-    ∙ refused-before a.form a.dropping a.registers.now a.memory.now a.bytes.now a.buffer.now c.in-Refused.number
-    (sym fixed ∙ (sym c.judge-judgement.ensures.0 ∙ ap number_of c.in-Refused.is))
+    let p = err_from_is_err_and c.from_residual.result c.from_residual.ensures.1 in
+    let n = row_of c.in_err-sizes_verdict.field-0.0 in
+    let k = size_checks (fixed_of a.form) (length a.registers.now) (length a.memory.now) (length a.buffer.now) in
+    let h = c.in_err-sizes_verdict.ensures ∙ ap (λ n. sizes_number n (length a.registers.now) (length a.memory.now) (length a.buffer.now)) c.fixed_part.ensures in
+    rw (p.1, p.2) (refused-before a.form a.dropping a.registers.now a.memory.now a.bytes.now a.buffer.now n (sym (lengths-refused k a.bytes.now n h)))
 
-pub returns-in-Accepted : goal.returns-in-Accepted
-returns-in-Accepted c =
+pub returns-in_err-machine : goal.returns-in_err-machine
+unfolding sizes_number
+returns-in_err-machine c =
     let a = c.args in
-    let j = c.judge-judgement in
-    let fixed = ap (λ n. first_that_applies (record_checks n (length a.registers.now) (length a.memory.now) (length a.buffer.now) a.bytes.now)) c.fixed_part.ensures in
-    let h = sym fixed ∙ (sym j.ensures.0 ∙ ap number_of c.in-Accepted.is) in
-    let w = c.write_as-answer.ensures ∙ ap (λ m. write_as a.form a.dropping (state m a.registers.now a.memory.now) a.buffer.now) j.ensures.1 in
-    write-handed a.form a.dropping a.registers.now a.memory.now a.bytes.now a.buffer.now h c.write_as-answer.result c.write_number.ensures w
+    let p = err_from_is_err_and c.from_residual-in_err-machine.result c.from_residual-in_err-machine.ensures.1 in
+    let n = row_of c.in_err-machine.field-0.0 in
+    let k = size_checks (fixed_of a.form) (length a.registers.now) (length a.memory.now) (length a.buffer.now) in
+    let h = c.in_ok-sizes_verdict.ensures ∙ ap (λ n. sizes_number n (length a.registers.now) (length a.memory.now) (length a.buffer.now)) c.fixed_part.ensures in
+    rw (p.1, p.2) (refused-before a.form a.dropping a.registers.now a.memory.now a.bytes.now a.buffer.now n (sym (record-refused k a.bytes.now h n zeroed c.in_err-machine.ensures)))
+
+pub returns : goal.returns
+unfolding sizes_number
+returns c =
+    let a = c.args in
+    let m = c.in_ok-machine.machine in
+    let k = size_checks (fixed_of a.form) (length a.registers.now) (length a.memory.now) (length a.buffer.now) in
+    let h = c.in_ok-sizes_verdict.ensures ∙ ap (λ n. sizes_number n (length a.registers.now) (length a.memory.now) (length a.buffer.now)) c.fixed_part.ensures in
+    write-handed a.form a.dropping a.registers.now a.memory.now a.bytes.now a.buffer.now (sym (all-accepted k a.bytes.now h m c.in_ok-machine.ensures))
+    c.write_as.result (machine-is k a.bytes.now h m c.in_ok-machine.ensures) c.write_as.ensures

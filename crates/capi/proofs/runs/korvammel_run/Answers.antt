@@ -1,36 +1,27 @@
--- `korvammel_run` meets its contract: by the verdict.
-use mathlib.Core.Path.{sym, ap, ◌∙◌}
-use lib.ListN.{length}
-use Rattle.answer.specs.Refusal.{number_of}
-use Rattle.machine.specs.State.{state}
-use Rattle.interpreter.specs.Run.{run}
-use Rattle.answer.specs.Refusal.{length_checks, lengths_number}
-use Rattle.capi.specs.Refusal.{run_number}
-use Rattle.capi.specs.Runs.{ran, no_result, run_call}
-use Rattle.capi.proofs.Handed.{run-handed}
-use Rattle.capi.proofs.Verdicts.{in_order, machine-is}
+-- `korvammel_run` meets its contract: what the run handed back, with its record in bytes.
+use mathlib.Core.List.{[], ◌∷◌}
+use mathlib.Core.Path.{◌≡◌, ap, ◌∙◌}
+use Rattle.image.specs.Answer.{answered}
+use Rattle.image.specs.Opening.{record_bytes}
+use Rattle.interpreter.specs.Run.{run_outcome}
+use Rattle.capi.specs.Answer.{number_of}
+use Rattle.capi.specs.Runs.{ran, result_of, no_result}
 use Rattle.capi.proofs.runs.korvammel_run.Goals as goal
+use Rattle.capi.proofs.runs.korvammel_run.Goals.{in-Ok, in-Err}
 
-pub returns-in-Refused : goal.returns-in-Refused
-unfolding run_call run_number lengths_number
-returns-in-Refused c =
-    let a = c.args in
-    let k = length_checks (length a.program.now) (length a.registers.now) (length a.memory.now) in
-    let o = in_order k a.bytes.now _ c.read_record-opening.result c.lengths_verdict-lengths.ensures c.read_record-opening.ensures in
-    let e = c.first_refusal-verdict.ensures ∙ o in
-    rw (← e, c.in-Refused.is) (ap (λ n. ran n no_result a.registers.now a.memory.now a.bytes.now) c.wide.ensures)
-
-pub returns-in-Accepted : goal.returns-in-Accepted
-unfolding run_call run_number lengths_number
-returns-in-Accepted c =
-    let a = c.args in
-    let k = length_checks (length a.program.now) (length a.registers.now) (length a.memory.now) in
-    let r = c.read_record-opening.result in
-    let z = c.lengths_verdict-lengths.ensures in
-    let b = c.read_record-opening.ensures in
-    let f = c.first_refusal-verdict.ensures in
-    let h = sym f ∙ ap number_of c.in-Accepted.is in
-    let e = f ∙ in_order k a.bytes.now _ r z b in
-    let m = machine-is k a.bytes.now _ r z b h in
-    let o = c.run-run.ensures ∙ ap (λ m. run a.program.now a.budget (state m a.registers.now a.memory.now)) m in
-    rw (← e, c.in-Accepted.is) (run-handed c.run-run.result c.ending.ensures c.low_half.ensures c.high_half.ensures c.write_record.ensures o)
+pub returns : goal.returns
+returns c =
+    let registers = c.run_from-answer.new.registers in
+    let memory = c.run_from-answer.new.memory in
+    elim c.match-answer.branch [
+      | in-Ok w ↦
+          let n : c.number.result ≡ 0 = c.number.ensures ∙ ap (λ x. number_of (answered x)) w.answer-is in
+          let r : c.match-answer.res ≡ result_of (run_outcome w.in-Ok.made registers memory) = w.res-is ∙ (λ i. w.ending.ensures i ∷ w.in-Ok.made.issues ∷ w.low_half-low.ensures i ∷ w.high_half-high.ensures i ∷ []) in
+          let b : c.match-answer.bytes ≡ record_bytes w.in-Ok.made.machine = w.bytes-is ∙ w.write_record.ensures in
+          (λ i. ran (n i) (r i) registers memory (b i)) ∙ w.in-Ok.ensures
+      | in-Err w ↦
+          let n = c.number.ensures ∙ ap (λ x. number_of (answered x)) (w.answer-is ∙ w.in-Err.is) in
+          let r : c.match-answer.res ≡ no_result = w.res-is in
+          let b = w.bytes-is in
+          (λ i. ran (n i) (r i) registers memory (b i)) ∙ w.in-Err.ensures
+    ]
