@@ -1,6 +1,6 @@
 // A source assembled into a buffer of words.
 ghost use Rattle.std.specs.Prelude.{◌≤◌, ◌≡◌, length};
-ghost use Rattle.expression.specs.Label.{address_in};
+ghost use Rattle.expression.specs.Labels.{addresses};
 ghost use Rattle.answer.specs.Refusal.{row_of};
 ghost use Rattle.assembler.specs.Source.{at-line, lines_of, labels_of, count, address_among, words_from, in_room, of_lines, of_texts};
 ghost use Rattle.assembler.specs.Into.{into, assembled_into, outcome_of, refused_at};
@@ -10,6 +10,7 @@ use crate::labels::fill_labels;
 use crate::lines::{Pass, first_refused};
 use crate::putting::put_words;
 use answer::{Refusal, RefusedLine, bad_program};
+use expression::Labels;
 
 // A refusal that names no line.
 fn no_line(refusal: Refusal) -> RefusedLine
@@ -19,18 +20,13 @@ fn no_line(refusal: Refusal) -> RefusedLine
 }
 
 // So many words of a source put into a buffer, if they are a program and it has room.
-fn finish(
-    source: &[u8],
-    labels: &[u32],
-    count: usize,
-    words: &mut [u32],
-) -> Result<usize, RefusedLine>
-    requires { (length source.now ≤ 65536)
-        × (count ≡ length (words_from (address_in source.now labels.now) 0 (lines_of source.now))) }
+fn finish(labels: Labels, count: usize, words: &mut [u32]) -> Result<usize, RefusedLine>
+    requires { (length labels.source.now ≤ 65536)
+        × (count ≡ length (words_from (addresses labels) 0 (lines_of labels.source.now))) }
     ensures { outcome_of result words.new
         ≡ into
         (in_room (length words.old)
-        (words_from (address_in source.now labels.now) 0 (lines_of source.now)))
+        (words_from (addresses labels.entry) 0 (lines_of labels.entry.source.now)))
         words.old }
 {
     if bad_program(count) {
@@ -39,28 +35,27 @@ fn finish(
     if words.len() < count {
         return Err(no_line(Refusal::ShortBuffer));
     }
-    put_words(source, labels, words);
+    put_words(labels, words);
     Ok(count)
 }
 
 // The lines of a source, of which none is malformed, by the table of its labels.
 fn assemble_lines(
-    source: &[u8],
-    labels: &[u32],
+    labels: Labels,
     instructions: usize,
     words: &mut [u32],
 ) -> Result<usize, RefusedLine>
-    requires { (length source.now ≤ 65536)
-        × (entries source.now labels.now ≡ labels_of (lines_of source.now))
-        × (instructions ≡ count (lines_of source.now)) }
+    requires { (length labels.source.now ≤ 65536)
+        × (entries labels.source.now labels.table.now ≡ labels_of (lines_of labels.source.now))
+        × (instructions ≡ count (lines_of labels.source.now)) }
     ensures { outcome_of result words.new
         ≡ into
-        (of_lines (address_in source.now labels.now) (length words.old) (lines_of source.now))
+        (of_lines (addresses labels.entry) (length words.old) (lines_of labels.entry.source.now))
         words.old }
 {
-    first_refused(source, labels, Pass::Labels)?;
-    first_refused(source, labels, Pass::Words)?;
-    finish(source, labels, instructions, words)
+    first_refused(labels, Pass::Labels)?;
+    first_refused(labels, Pass::Words)?;
+    finish(labels, instructions, words)
 }
 
 // The lines of a source, of which none is malformed.
@@ -73,7 +68,11 @@ fn assemble_labelled(source: &[u8], words: &mut [u32]) -> Result<usize, RefusedL
 {
     let mut table = [0; 43692];
     let counts = fill_labels(source, &mut table);
-    assemble_lines(source, &table[..2 * counts.labels], counts.words, words)
+    let labels = Labels {
+        source,
+        table: &table[..2 * counts.labels],
+    };
+    assemble_lines(labels, counts.words, words)
 }
 
 // A source of a length that is allowed.
@@ -82,7 +81,8 @@ fn assemble_texts(source: &[u8], words: &mut [u32]) -> Result<usize, RefusedLine
     ensures { outcome_of result words.new
         ≡ into (of_texts (length words.old) source.now) words.old }
 {
-    first_refused(source, &[], Pass::Texts)?;
+    let none = Labels { source, table: &[] };
+    first_refused(none, Pass::Texts)?;
     assemble_labelled(source, words)
 }
 

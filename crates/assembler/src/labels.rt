@@ -4,6 +4,7 @@ ghost use Rattle.statement.specs.Evaluation.{LabelInside};
 ghost use Rattle.assembler.specs.Table.{Filled, entered};
 
 use crate::lines::{labels_in, line_end, words_in};
+use expression::Labels;
 use statement::{Line, line_of};
 
 // How many labels and words lines have.
@@ -34,7 +35,11 @@ pub fn fill_labels(source: &[u8], table: &mut [u32]) -> Counts
     let mut words = 0;
     while start <= source.len() {
         let end = line_end(source, start);
-        let line = line_of(&source[start..end], source, &table[..0]);
+        let none = Labels {
+            source,
+            table: &table[..0],
+        };
+        let line = line_of(&source[start..end], none);
         enter(table, line, start, n, words);
         n += labels_in(line);
         words += words_in(line);

@@ -1,7 +1,7 @@
 // The lines of a source, one after the other.
 ghost use Rattle.std.specs.Prelude.{◌+◌, ◌*◌, ◌%◌, ◌^◌, ◌≤◌, ◌≡◌, length, take, drop};
 ghost use Rattle.answer.specs.Refusal.{number_of};
-ghost use Rattle.expression.specs.Label.{address_in};
+ghost use Rattle.expression.specs.Labels.{addresses};
 ghost use Rattle.token.specs.Token.{leading_word};
 ghost use Rattle.statement.specs.Meaning.{word_in};
 ghost use Rattle.statement.specs.Evaluation.{line_value, LabelInside};
@@ -10,7 +10,7 @@ ghost use Rattle.assembler.specs.Walk.{first_text, rule_of, entries, instruction
 ghost use Rattle.assembler.specs.Walk.{verdict_of, labels_in, words_in, TableAt, TableFor};
 
 use answer::{Refusal, RefusedLine};
-use expression::{Value, value_of_label};
+use expression::{Labels, Value, value_of_label};
 use isa::Instruction;
 use statement::{Line, OperandValues, line_of, up_to, word_of};
 use token::past_run;
@@ -53,22 +53,20 @@ pub fn words_in(line: Option<Line>) -> usize
 }
 
 // Refuses a label, behind n labels of a table.
-fn judge_label(
-    source: &[u8],
-    labels: &[u32],
-    n: usize,
-    text: &[u8],
-    start: usize,
-) -> Result<(), Refusal>
-    requires { (2 * n ≤ length labels.now) × (start ≤ length text.now) }
+fn judge_label(labels: Labels, n: usize, text: &[u8], start: usize) -> Result<(), Refusal>
+    requires { (2 * n ≤ length labels.table.now) × (start ≤ length text.now) }
     ensures { number_of result
-        ≡ name_number (entries source.now (take (2 * n) labels.now)) (leading_word (drop start text.now)) }
+        ≡ name_number (entries labels.entry.source.now (take (2 * n) labels.entry.table.now)) (leading_word (drop start text.now)) }
 {
     if 256 <= n {
         return Err(Refusal::Label);
     }
     let stop = past_run(text, start);
-    match value_of_label(source, &labels[..2 * n], &text[start..stop]) {
+    let earlier = Labels {
+        table: &labels.table[..2 * n],
+        ..labels
+    };
+    match value_of_label(earlier, &text[start..stop]) {
         Value::Known(_) | Value::TooLarge => Err(Refusal::Label),
         Value::Unknown => Ok(()),
     }
@@ -112,18 +110,17 @@ fn judge(
     pass: Pass,
     line: Option<Line>,
     text: &[u8],
-    source: &[u8],
-    labels: &[u32],
+    labels: Labels,
     n: usize,
     words: usize,
 ) -> Result<(), Refusal>
-    requires { TableAt pass labels.now n × LabelInside (length text.now) line × (words ≤ 65537) }
+    requires { TableAt pass labels.table.now n × LabelInside (length text.now) line × (words ≤ 65537) }
     ensures { number_of result
-        ≡ line_number_of pass (entries source.now (take (2 * n) labels.now)) words (line_value text.now line) }
+        ≡ line_number_of pass (entries labels.entry.source.now (take (2 * n) labels.entry.table.now)) words (line_value text.now line) }
 {
     match (pass, line) {
         (Pass::Texts, None) => Err(Refusal::Source),
-        (Pass::Labels, Some(Line::Label(start))) => judge_label(source, labels, n, text, start),
+        (Pass::Labels, Some(Line::Label(start))) => judge_label(labels, n, text, start),
         (Pass::Labels, Some(Line::Code(_, f))) => judge_use(f),
         (Pass::Words, Some(Line::Code(i, f))) => judge_word(i, f, words),
         _ => Ok(()),
@@ -131,11 +128,12 @@ fn judge(
 }
 
 // Refuses the first line that a pass refuses.
-pub fn first_refused(source: &[u8], labels: &[u32], pass: Pass) -> Result<(), RefusedLine>
-    requires { (length source.now ≤ 65536) × TableFor pass source.now labels.now }
+pub fn first_refused(labels: Labels, pass: Pass) -> Result<(), RefusedLine>
+    requires { (length labels.source.now ≤ 65536) × TableFor pass labels.source.now labels.table.now }
     ensures { verdict_of result
-        ≡ first (rule_of pass (address_in source.now labels.now)) (texts_of source.now) }
+        ≡ first (rule_of pass (addresses labels.entry)) (texts_of labels.entry.source.now) }
 {
+    let source = labels.source;
     let mut start = 0;
     let mut before = 0;
     let mut n = 0;
@@ -144,8 +142,8 @@ pub fn first_refused(source: &[u8], labels: &[u32], pass: Pass) -> Result<(), Re
     while start <= source.len() {
         let end = line_end(source, start);
         let text = &source[start..end];
-        let line = line_of(text, source, labels);
-        if let Err(refusal) = judge(pass, line, text, source, labels, n, words) {
+        let line = line_of(text, labels);
+        if let Err(refusal) = judge(pass, line, text, labels, n, words) {
             return Err(RefusedLine {
                 refusal,
                 line: before + 1,

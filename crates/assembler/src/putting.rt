@@ -1,12 +1,12 @@
 // The words of a source put into a buffer.
 ghost use Rattle.std.specs.Prelude.{◌≤◌, ◌≡◌, length};
-ghost use Rattle.expression.specs.Label.{address_in};
+ghost use Rattle.expression.specs.Labels.{addresses};
 ghost use Rattle.assembler.specs.Source.{lines_of, words_from};
 ghost use Rattle.assembler.specs.Into.{over};
 ghost use Rattle.assembler.specs.Walk.{line_word, stored, RoomFor, onwards, word_found};
 
 use crate::lines::{instruction_word, line_end, words_in};
-use expression::Value;
+use expression::{Labels, Value};
 use statement::{Line, line_of};
 
 // The word of a line behind so many instructions, if it has one.
@@ -39,18 +39,19 @@ fn put_line(words: &mut [u32], line: Option<Line>, before: usize, k: usize) -> u
 }
 
 // The words of a source put into a buffer that has room for them.
-pub fn put_words(source: &[u8], labels: &[u32], words: &mut [u32])
-    requires { (length source.now ≤ 65536)
-        × (length (words_from (address_in source.now labels.now) 0 (lines_of source.now)) ≤ length words.old) }
+pub fn put_words(labels: Labels, words: &mut [u32])
+    requires { (length labels.source.now ≤ 65536)
+        × (length (words_from (addresses labels) 0 (lines_of labels.source.now)) ≤ length words.old) }
     ensures { words.new
-        ≡ over (words_from (address_in source.now labels.now) 0 (lines_of source.now)) words.old }
+        ≡ over (words_from (addresses labels.entry) 0 (lines_of labels.entry.source.now)) words.old }
 {
+    let source = labels.source;
     let mut start = 0;
     let mut before = 0;
     let mut k = 0;
     while start <= source.len() {
         let end = line_end(source, start);
-        let line = line_of(&source[start..end], source, labels);
+        let line = line_of(&source[start..end], labels);
         k = put_line(words, line, before, k);
         before += words_in(line);
         start = end + 1;

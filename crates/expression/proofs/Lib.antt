@@ -4,5 +4,5 @@ pub mod Steps
 pub mod Places
 pub mod Values
 pub mod Words
-pub mod Labels
+pub mod Named
 pub mod Exact

@@ -5,7 +5,6 @@ use Rattle.std.proofs.Math.Option.{Option, none, some}
 use Rattle.expression.specs.Grammar.{Parse, parse, term_at, sum_at}
 use Rattle.token.specs.Token.{past, Token, tokens}
 use Rattle.expression.specs.Syntax.{Term}
-use Rattle.expression.specs.Label.{address_in}
 use Rattle.expression.specs.Types.{Sign, Value, Known, TooLarge, Unknown}
 use Rattle.expression.specs.Value.{bias, nested, value_term, value_sum}
 use Rattle.token.specs.Number.{limit}
@@ -80,12 +79,12 @@ AdvancesPast end (Some (v, next)) r = Advances next end r
 AdvancesPast end None r = r ≡ None
 
 -- What `term` and `sum` promise, at whatever number bounds the calls, if it is large enough.
-unfoldable pub TermRead : List ℕ → List ℕ → List ℕ → ℕ → ℕ → code.Option (Value × ℕ) → Type 0
-TermRead line source labels at depth r =
+unfoldable pub TermRead : List ℕ → (List ℕ → Option ℕ) → ℕ → ℕ → code.Option (Value × ℕ) → Type 0
+TermRead line addresses at depth r =
     (n : ℕ) → 2 * (length line - at) < n
-    → parsed_as line r ≡ evaluated (value_term (address_in source labels) depth) (term_at n (tokens (drop at line)))
+    → parsed_as line r ≡ evaluated (value_term addresses depth) (term_at n (tokens (drop at line)))
 
-unfoldable pub SumRead : List ℕ → List ℕ → List ℕ → ℕ → ℕ → Value → Sign → code.Option (Value × ℕ) → Type 0
-SumRead line source labels at depth v s r =
+unfoldable pub SumRead : List ℕ → (List ℕ → Option ℕ) → ℕ → ℕ → Value → Sign → code.Option (Value × ℕ) → Type 0
+SumRead line addresses at depth v s r =
     (n : ℕ) → 2 * (length line - at) + 1 < n
-    → parsed_as line r ≡ evaluated (value_sum (address_in source labels) depth v s) (sum_at n (tokens (drop at line)))
+    → parsed_as line r ≡ evaluated (value_sum addresses depth v s) (sum_at n (tokens (drop at line)))

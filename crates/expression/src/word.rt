@@ -2,12 +2,20 @@
 ghost use Rattle.std.specs.Prelude.{◌+◌, ◌≤◌, ◌≡◌, length, drop};
 ghost use Rattle.token.specs.Token.{leading_word};
 ghost use Rattle.expression.specs.Grammar.{word_term};
-ghost use Rattle.expression.specs.Label.{address_in, same};
+ghost use Rattle.expression.specs.Label.{same};
+ghost use Rattle.expression.specs.Labels.{addresses};
 ghost use Rattle.expression.specs.Reading.{term_valued, term_value_of, TermInRange, InRange};
 ghost use Rattle.expression.specs.Value.{value_term, label_value, bounded, bias};
 
 use crate::value::{Value, ZERO, bound};
 use token::{is_label, number_of, past_run};
+
+// The labels of a source: the source, and for each label the place of its name there and its address, in turn.
+#[derive(Clone, Copy, Debug, PartialEq, Eq)]
+pub struct Labels<'a> {
+    pub source: &'a [u8],
+    pub table: &'a [u32],
+}
 
 // The word that stands in a text from a place on.
 fn word_from(text: &[u8], place: usize) -> &[u8]
@@ -29,14 +37,14 @@ fn same_word(source: &[u8], place: usize, word: &[u8]) -> bool
     }
 }
 
-// The value of the label that a word is, among the places and addresses of labels.
-pub fn value_of_label(source: &[u8], labels: &[u32], word: &[u8]) -> Value
-    ensures value { result ≡ label_value (address_in source.now labels.now word.now) }
+// The value of the label that a word is.
+pub fn value_of_label(labels: Labels, word: &[u8]) -> Value
+    ensures value { result ≡ label_value (addresses labels.entry word.now) }
     ensures held { InRange result }
 {
-    let mut rest = labels;
+    let mut rest = labels.table;
     while let [place, address, others @ ..] = rest {
-        if same_word(source, *place as usize, word) {
+        if same_word(labels.source, *place as usize, word) {
             return bound_up(*address as usize);
         }
         rest = others;
@@ -56,15 +64,15 @@ fn bound_up(n: usize) -> Value
 }
 
 // A word as a term.
-pub fn word_term(source: &[u8], labels: &[u32], word: &[u8]) -> Option<Value>
+pub fn word_term(labels: Labels, word: &[u8]) -> Option<Value>
     ensures value { term_valued result
-        ≡ term_value_of (value_term (address_in source.now labels.now) 0)
+        ≡ term_value_of (value_term (addresses labels.entry) 0)
         (word_term word.now) }
     ensures held { TermInRange result }
 {
     match number_of(word) {
         Some(n) => Some(bound_up(n as usize)),
-        None if is_label(word) => Some(value_of_label(source, labels, word)),
+        None if is_label(word) => Some(value_of_label(labels, word)),
         None => None,
     }
 }

@@ -3,12 +3,13 @@ ghost use Rattle.std.specs.Prelude.{◌≡◌, ◌+◌, ◌≤◌, ◌<◌, leng
 ghost use Rattle.std.proofs.Math.Option.{some};
 ghost use Rattle.token.specs.Token.{past, leading_word, tokens};
 ghost use Rattle.token.specs.Byte.{is_blank};
-ghost use Rattle.expression.specs.Label.{address_in};
+ghost use Rattle.expression.specs.Labels.{addresses};
 ghost use Rattle.statement.specs.Line.{up_to, code_line, line_of, named_line, by_colon};
 ghost use Rattle.statement.specs.Evaluation.{line_value, evaluated_line, LabelInside, IsLabelLine};
 
 use crate::mnemonics::named;
 use crate::operands::{OperandValues, has_operands, operands_at};
+use expression::Labels;
 use isa::{Instruction, slots_of};
 use token::{Token, is_blank, is_label, past_mark, token_at};
 
@@ -54,21 +55,15 @@ fn label_line(line: &[u8], start: usize, stop: usize, next: usize) -> Option<Lin
 }
 
 // A line that begins with an instruction's name, which ends at a place.
-fn instruction_line(
-    line: &[u8],
-    source: &[u8],
-    labels: &[u32],
-    i: Instruction,
-    stop: usize,
-) -> Option<Line>
+fn instruction_line(line: &[u8], labels: Labels, i: Instruction, stop: usize) -> Option<Line>
     ensures line { line_value line.now result
-        ≡ evaluated_line (address_in source.now labels.now)
+        ≡ evaluated_line (addresses labels.entry)
         (named_line (some i) (is_blank (get_or line.now stop 0)) (tokens (drop stop line.now))) }
     ensures label { LabelInside (length line.now) result }
 {
     let slots = slots_of(i);
     let enough = blank_at(line, stop) | !has_operands(slots);
-    let (operand_values, next) = operands_at(line, source, labels, slots, stop)?;
+    let (operand_values, next) = operands_at(line, labels, slots, stop)?;
     match token_at(line, next) {
         Token::End => {
             if enough {
@@ -82,10 +77,10 @@ fn instruction_line(
 }
 
 // A line that begins with a word.
-fn word_line(line: &[u8], source: &[u8], labels: &[u32], start: usize, stop: usize) -> Option<Line>
+fn word_line(line: &[u8], labels: Labels, start: usize, stop: usize) -> Option<Line>
     requires { (stop ≤ length line.now) × (start < stop) × (stop ≡ start + length (leading_word (drop start line.now))) }
     ensures line { line_value line.now result
-        ≡ evaluated_line (address_in source.now labels.now)
+        ≡ evaluated_line (addresses labels.entry)
         (by_colon (leading_word (drop start line.now)) (is_blank (get_or line.now stop 0))
         (tokens (drop stop line.now)) (past 58 (tokens (drop stop line.now)))) }
     ensures label { LabelInside (length line.now) result }
@@ -94,30 +89,31 @@ fn word_line(line: &[u8], source: &[u8], labels: &[u32], start: usize, stop: usi
         return label_line(line, start, stop, next);
     }
     let i = named(&line[start..stop])?;
-    instruction_line(line, source, labels, i, stop)
+    instruction_line(line, labels, i, stop)
 }
 
 // A line without its comment.
-fn code_line(line: &[u8], source: &[u8], labels: &[u32]) -> Option<Line>
+fn code_line(line: &[u8], labels: Labels) -> Option<Line>
     ensures line { line_value line.now result
-        ≡ evaluated_line (address_in source.now labels.now) (code_line line.now) }
+        ≡ evaluated_line (addresses labels.entry) (code_line line.now) }
     ensures label { LabelInside (length line.now) result }
 {
     match token_at(line, 0) {
         Token::End => Some(Line::Blank),
         Token::Mark(..) => None,
-        Token::Word(start, stop) => word_line(line, source, labels, start, stop),
+        Token::Word(start, stop) => word_line(line, labels, start, stop),
     }
 }
 
-// What a line says, by a source and the places and addresses of its labels; None where it is malformed.
-pub fn line_of(line: &[u8], source: &[u8], labels: &[u32]) -> Option<Line>
+// What a line of a source says, by its labels; None where it is malformed.
+#[tactic(auto, unfolding(crate::specs::Line::line_of))]
+pub fn line_of(line: &[u8], labels: Labels) -> Option<Line>
     ensures line { line_value line.now result
-        ≡ evaluated_line (address_in source.now labels.now) (line_of line.now) }
+        ≡ evaluated_line (addresses labels.entry) (line_of line.now) }
     ensures label { LabelInside (length line.now) result }
 {
     if 120 < line.len() {
         return None;
     }
-    code_line(up_to(line, b';'), source, labels)
+    code_line(up_to(line, b';'), labels)
 }

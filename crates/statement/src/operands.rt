@@ -1,7 +1,7 @@
 // The operands of an instruction.
 ghost use Rattle.std.specs.Prelude.{◌≡◌, drop};
 ghost use Rattle.std.proofs.Math.Option.{some};
-ghost use Rattle.expression.specs.Label.{address_in};
+ghost use Rattle.expression.specs.Labels.{addresses};
 ghost use Rattle.token.specs.Scan.{place_of};
 ghost use Rattle.token.specs.Token.{tokens};
 ghost use Rattle.statement.specs.Mnemonic.{is_operand, has_operands};
@@ -11,7 +11,7 @@ ghost use Rattle.statement.specs.Field.{put, valued, register_field, field_in};
 ghost use Rattle.statement.specs.Field.{parted, field_on, operands_seen, operands_evaluated};
 
 use crate::registers::{Register, bracket_at, register_at};
-use expression::{Value, ZERO, expression_at};
+use expression::{Labels, Value, ZERO, expression_at};
 use isa::{Slot, Slots};
 use token::past_mark;
 
@@ -81,33 +81,31 @@ fn add_register(
 
 fn immediate(
     line: &[u8],
-    source: &[u8],
-    labels: &[u32],
+    labels: Labels,
     f: OperandValues,
     at: usize,
 ) -> Option<(OperandValues, usize)>
     ensures { operands_seen line.now result
-        ≡ field_in (address_in source.now labels.now) Slot.AnImmediate f (some (tokens (drop at line.now))) }
+        ≡ field_in (addresses labels.entry) Slot.AnImmediate f (some (tokens (drop at line.now))) }
 {
-    let (value, next) = expression_at(line, source, labels, at)?;
+    let (value, next) = expression_at(line, labels, at)?;
     Some((with_value(f, value), next))
 }
 
 // A base in brackets, perhaps behind an offset.
 fn address(
     line: &[u8],
-    source: &[u8],
-    labels: &[u32],
+    labels: Labels,
     f: OperandValues,
     at: usize,
 ) -> Option<(OperandValues, usize)>
     ensures { operands_seen line.now result
-        ≡ field_in (address_in source.now labels.now) Slot.AnAddress f (some (tokens (drop at line.now))) }
+        ≡ field_in (addresses labels.entry) Slot.AnAddress f (some (tokens (drop at line.now))) }
 {
     if let Some((r, next)) = bracket_at(line, at) {
         return Some((with_register(f, r), next));
     }
-    let (offset, next) = immediate(line, source, labels, f, at)?;
+    let (offset, next) = immediate(line, labels, f, at)?;
     add_register(line, offset, bracket_at(line, next))
 }
 
@@ -124,19 +122,18 @@ fn separate(line: &[u8], f: OperandValues, at: usize) -> Option<usize>
 
 fn operand(
     line: &[u8],
-    source: &[u8],
-    labels: &[u32],
+    labels: Labels,
     slot: Slot,
     f: OperandValues,
     at: usize,
 ) -> Option<(OperandValues, usize)>
     ensures { operands_seen line.now result
-        ≡ field_in (address_in source.now labels.now) slot f (some (tokens (drop at line.now))) }
+        ≡ field_in (addresses labels.entry) slot f (some (tokens (drop at line.now))) }
 {
     match slot {
         Slot::ARegister => add_register(line, f, register_at(line, at)),
-        Slot::AnImmediate => immediate(line, source, labels, f, at),
-        Slot::AnAddress => address(line, source, labels, f, at),
+        Slot::AnImmediate => immediate(line, labels, f, at),
+        Slot::AnAddress => address(line, labels, f, at),
         Slot::Nothing => None,
     }
 }
@@ -145,32 +142,30 @@ fn operand(
 #[tactic(auto, unfolding(crate::specs::Field::field_on))]
 fn next_operand(
     line: &[u8],
-    source: &[u8],
-    labels: &[u32],
+    labels: Labels,
     slot: Slot,
     before: Option<(OperandValues, usize)>,
 ) -> Option<(OperandValues, usize)>
     ensures { operands_seen line.now result
-        ≡ field_on (address_in source.now labels.now) slot (operands_seen line.now before) }
+        ≡ field_on (addresses labels.entry) slot (operands_seen line.now before) }
 {
     if !is_operand(slot) {
         return before;
     }
     let (f, at) = before?;
     let next = separate(line, f, at)?;
-    operand(line, source, labels, slot, f, next)
+    operand(line, labels, slot, f, next)
 }
 
 // The operands from a place on, and the place behind them.
 pub fn operands_at(
     line: &[u8],
-    source: &[u8],
-    labels: &[u32],
+    labels: Labels,
     s: Slots,
     at: usize,
 ) -> Option<(OperandValues, usize)>
     ensures { operands_seen line.now result
-        ≡ operands_evaluated (address_in source.now labels.now) (operands_at s (tokens (drop at line.now))) }
+        ≡ operands_evaluated (addresses labels.entry) (operands_at s (tokens (drop at line.now))) }
 {
     let zero = Register {
         vector: false,
@@ -183,7 +178,7 @@ pub fn operands_at(
         count: 0,
         value: Value::Known(ZERO),
     };
-    let one = next_operand(line, source, labels, s.first, Some((none, at)));
-    let two = next_operand(line, source, labels, s.second, one);
-    next_operand(line, source, labels, s.third, two)
+    let one = next_operand(line, labels, s.first, Some((none, at)));
+    let two = next_operand(line, labels, s.second, one);
+    next_operand(line, labels, s.third, two)
 }

@@ -2,14 +2,10 @@
 use Rattle.assembler.proofs.Refusals.{by-table}
 use Rattle.assembler.specs.Into.{into}
 use Rattle.assembler.specs.Source.{lines_of, of_lines}
-use lib.Seq.{length-take-le}
 use lib.ListN.{length, take}
-use mathlib.Core.Path.{sym, ap, ◌∙◌}
+use mathlib.Core.Path.{ap, ◌∙◌}
 use Prim.Native.Nat.{◌*◌}
 use Rattle.assembler.proofs.assembling.assemble_labelled.Goals as goal
-
-pub slice_bounds-assemble_lines-end : goal.slice_bounds-assemble_lines-end
-slice_bounds-assemble_lines-end c = let f = c.fill_labels-counts in sym (length-take-le (2 * f.result.labels) f.new.table f.ensures.fits)
 
 pub returns : goal.returns
 returns c =

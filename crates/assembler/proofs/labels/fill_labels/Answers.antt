@@ -5,7 +5,7 @@ use Rattle.assembler.proofs.Texts.{texts-none, end-in}
 use Rattle.expression.specs.Label.{address_in}
 use lib.ListN.{length, take}
 use native.Mathlib.Omega.{arith}
-use mathlib.Core.Path.{refl, ap, ◌∙◌}
+use mathlib.Core.Path.{ap, ◌∙◌}
 use Prim.Native.Nat.{◌≤◌}
 use Rattle.assembler.proofs.labels.fill_labels.Goals as goal
 
@@ -65,6 +65,3 @@ returns c =
     let p = c.loop-start in
     let none = texts-none l p.start (omega arith) in
     record { fits = omega arith; holds = labels-end l p.table p.start p.n p.words none p.invariant.0; counted = count-end l p.start p.words none p.invariant.1 }
-
-pub slice_bounds-line_of-end-in-loop-start-2 : goal.slice_bounds-line_of-end-in-loop-start-2
-slice_bounds-line_of-end-in-loop-start-2 c = refl

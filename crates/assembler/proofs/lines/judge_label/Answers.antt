@@ -1,6 +1,5 @@
 -- `judge_label` meets its contract.
 use Rattle.std.proofs.Common.{◌≡◌, ◌*◌, take, drop, sym, ap, ◌∙◌, arith}
-use lib.Seq.{length-take-le}
 use Rattle.token.specs.Token.{leading_word}
 use Rattle.token.proofs.Runs.{run_fits}
 use Rattle.expression.specs.Label.{address_in}
@@ -14,21 +13,18 @@ use Rattle.assembler.proofs.lines.judge_label.Goals as goal
 pub returns-then-n-ge256 : goal.returns-then-n-ge256
 returns-then-n-ge256 c =
     let x = c.args in
-    let s = x.source.now in
-    let t = x.labels.now in
+    let s = x.labels.source.now in
+    let t = x.labels.table.now in
     sym (name-beyond (entries s (take (2 * x.n) t)) (leading_word (drop x.start x.text.now)) (omega (arith, so-many s t x.n c.requires.0)))
 
 pub slice_bounds-value_of_label-end : goal.slice_bounds-value_of_label-end
-slice_bounds-value_of_label-end c = sym (length-take-le _ c.args.labels.now c.requires.0)
-
-pub slice_bounds-value_of_label-end-2 : goal.slice_bounds-value_of_label-end-2
-slice_bounds-value_of_label-end-2 c = omega (arith, c.past_run-stop.ensures, run_fits c.args.text.now c.args.start c.requires.1)
+slice_bounds-value_of_label-end c = omega (arith, c.past_run-stop.ensures, run_fits c.args.text.now c.args.start c.requires.1)
 
 pub returns-in-Known : goal.returns-in-Known
 returns-in-Known c =
     let x = c.args in
-    let s = x.source.now in
-    let t = take (2 * x.n) x.labels.now in
+    let s = x.labels.source.now in
+    let t = take (2 * x.n) x.labels.table.now in
     let w = leading_word (drop x.start x.text.now) in
     let k = c.value_of_label in
     let v = k.ensures.value ∙ ap (λ y. label_value (address_in s t y)) (text-word x.text.now x.start c.past_run-stop.result c.past_run-stop.ensures) in
@@ -37,8 +33,8 @@ returns-in-Known c =
 pub returns-in-Unknown : goal.returns-in-Unknown
 returns-in-Unknown c =
     let x = c.args in
-    let s = x.source.now in
-    let t = take (2 * x.n) x.labels.now in
+    let s = x.labels.source.now in
+    let t = take (2 * x.n) x.labels.table.now in
     let w = leading_word (drop x.start x.text.now) in
     let v : Unknown ≡ label_value (address_in s t w) = c.in-Unknown.ensures.value ∙ ap (λ y. label_value (address_in s t y)) (text-word x.text.now x.start c.past_run-stop.result c.past_run-stop.ensures) in
-    sym (name_new (entries s t) w (ap is_known (sym (address_is s t w)) ∙ unknown-is (address_in s t w) v) (omega (arith, so-many s x.labels.now x.n c.requires.0)))
+    sym (name_new (entries s t) w (ap is_known (sym (address_is s t w)) ∙ unknown-is (address_in s t w) v) (omega (arith, so-many s x.labels.table.now x.n c.requires.0)))

@@ -4,7 +4,7 @@ use Rattle.assembler.proofs.Walking.{few_words}
 use Rattle.assembler.proofs.Texts.{texts_at, texts-none, end-in}
 use Rattle.assembler.specs.Walk.{line_word, words_in}
 use Rattle.assembler.specs.Source.{line_in, lines_of, words_from}
-use Rattle.expression.specs.Label.{address_in}
+use Rattle.expression.specs.Labels.{addresses}
 use lib.ListN.{take}
 use native.Mathlib.Omega.{arith}
 use mathlib.Core.Path.{refl, ◌∙◌}
@@ -13,25 +13,25 @@ use mathlib.Core.List.{map}
 use Rattle.assembler.proofs.putting.put_words.Goals as goal
 
 pub loop-start-init : goal.loop-start-init
-loop-start-init c = let x = c.args in (words-begin (address_in x.source.now x.labels.now) x.source.now x.words.now, refl, omega arith, refl, omega arith, omega arith, omega arith)
+loop-start-init c = let x = c.args in (words-begin (addresses x.labels) x.labels.source.now x.words.now, refl, omega arith, refl, omega arith, omega arith, omega arith)
 
 pub slice_bounds-line_of-count : goal.slice_bounds-line_of-count
-slice_bounds-line_of-count c = omega (arith, end-in c.args.source.now c.loop-start.start c.line_end-end.result (omega arith) c.line_end-end.ensures)
+slice_bounds-line_of-count c = omega (arith, end-in c.args.labels.source.now c.loop-start.start c.line_end-end.result (omega arith) c.line_end-end.ensures)
 
 pub slice_bounds-line_of-start : goal.slice_bounds-line_of-start
-slice_bounds-line_of-start c = omega (arith, end-in c.args.source.now c.loop-start.start c.line_end-end.result (omega arith) c.line_end-end.ensures)
+slice_bounds-line_of-start c = omega (arith, end-in c.args.labels.source.now c.loop-start.start c.line_end-end.result (omega arith) c.line_end-end.ensures)
 
 pub slice_bounds-line_of-end : goal.slice_bounds-line_of-end
-slice_bounds-line_of-end c = omega (arith, end-in c.args.source.now c.loop-start.start c.line_end-end.result (omega arith) c.line_end-end.ensures)
+slice_bounds-line_of-end c = omega (arith, end-in c.args.labels.source.now c.loop-start.start c.line_end-end.result (omega arith) c.line_end-end.ensures)
 
 pub put_line-k-requires : goal.put_line-k-requires
 put_line-k-requires c =
     let x = c.args in
     let p = c.loop-start in
-    let l = x.source.now in
+    let l = x.labels.source.now in
     let e = c.line_end-end in
     let r = c.line_of-line.result in
-    let a = address_in l x.labels.now in
+    let a = addresses x.labels in
     let here = words-here l p.start e.result (omega arith) e.ensures a r c.line_of-line.ensures.line (words_from a 0 (lines_of l)) (take p.k p.words) p.before p.invariant.0 in
     (omega arith, omega arith, room p.k p.words (words_from a 0 (lines_of l)) (words_from a (4 * (p.before + words_in r)) (map line_in (texts_at l (e.result + 1)))) (line_word p.before r) here (omega arith))
 
@@ -39,19 +39,19 @@ pub overflow_add-before : goal.overflow_add-before
 overflow_add-before c = omega (arith, c.words_in-before.ensures, few_words c.line_of-line.result)
 
 pub overflow_add-start : goal.overflow_add-start
-overflow_add-start c = omega (arith, end-in c.args.source.now c.loop-start.start c.line_end-end.result (omega arith) c.line_end-end.ensures)
+overflow_add-start c = omega (arith, end-in c.args.labels.source.now c.loop-start.start c.line_end-end.result (omega arith) c.line_end-end.ensures)
 
 pub loop-start-smaller : goal.loop-start-smaller
-loop-start-smaller c = omega (arith, end-in c.args.source.now c.loop-start.start c.line_end-end.result (omega arith) c.line_end-end.ensures)
+loop-start-smaller c = omega (arith, end-in c.args.labels.source.now c.loop-start.start c.line_end-end.result (omega arith) c.line_end-end.ensures)
 
 pub loop-start-preserved : goal.loop-start-preserved
 loop-start-preserved c =
     let x = c.args in
     let p = c.loop-start in
-    let l = x.source.now in
+    let l = x.labels.source.now in
     let e = c.line_end-end in
     let r = c.line_of-line.result in
-    let a = address_in l x.labels.now in
+    let a = addresses x.labels in
     let o = line_word p.before r in
     let rest = words_from a (4 * (p.before + words_in r)) (map line_in (texts_at l (e.result + 1))) in
     let ws = words_from a 0 (lines_of l) in
@@ -69,5 +69,5 @@ pub returns : goal.returns
 returns c =
     let x = c.args in
     let p = c.loop-start in
-    let l = x.source.now in
-    words-end (address_in l x.labels.now) l p.words x.words.now _ p.start p.before p.k (texts-none l p.start (omega arith)) p.invariant.2 p.invariant.1 p.invariant.0
+    let l = x.labels.source.now in
+    words-end (addresses x.labels) l p.words x.words.now _ p.start p.before p.k (texts-none l p.start (omega arith)) p.invariant.2 p.invariant.1 p.invariant.0

@@ -2,7 +2,7 @@
 use Rattle.std.proofs.Common.{drop, ap, ◌∙◌, arith}
 use lib.Seq.{slice}
 use Rattle.expression.specs.Grammar.{word_term}
-use Rattle.expression.specs.Label.{address_in}
+use Rattle.expression.specs.Labels.{addresses}
 use Rattle.token.specs.Token.{tokens}
 use Rattle.expression.specs.Value.{value_term}
 use Rattle.expression.specs.Reading.{term_value_of}
@@ -14,12 +14,12 @@ pub returns-in_err-value-clause-read : goal.returns-in_err-value-clause-read
 returns-in_err-value-clause-read c =
     let a = c.args in
     rw c.from_residual.ensures
-    (worth-none (value_term (address_in a.source.now a.labels.now) 0) (word_term (slice a.start a.stop a.line.now)) (tokens (drop a.stop a.line.now)) (c.in_err-value.ensures.value ∙ ap (λ w. term_value_of (value_term (address_in a.source.now a.labels.now) 0) (word_term w)) (part-is a.start a.stop a.line.now (omega arith))))
+    (worth-none (value_term (addresses a.labels) 0) (word_term (slice a.start a.stop a.line.now)) (tokens (drop a.stop a.line.now)) (c.in_err-value.ensures.value ∙ ap (λ w. term_value_of (value_term (addresses a.labels) 0) (word_term w)) (part-is a.start a.stop a.line.now (omega arith))))
 
 pub returns : goal.returns
 returns c =
     let a = c.args in
     record {
-      read = worth-some (value_term (address_in a.source.now a.labels.now) 0) (word_term (slice a.start a.stop a.line.now)) c.in_ok-value.value (tokens (drop a.stop a.line.now)) (c.in_ok-value.ensures.value ∙ ap (λ w. term_value_of (value_term (address_in a.source.now a.labels.now) 0) (word_term w)) (part-is a.start a.stop a.line.now (omega arith)));
+      read = worth-some (value_term (addresses a.labels) 0) (word_term (slice a.start a.stop a.line.now)) c.in_ok-value.value (tokens (drop a.stop a.line.now)) (c.in_ok-value.ensures.value ∙ ap (λ w. term_value_of (value_term (addresses a.labels) 0) (word_term w)) (part-is a.start a.stop a.line.now (omega arith)));
       ahead = (c.requires.1, c.requires.0, c.in_ok-value.ensures.held);
     }

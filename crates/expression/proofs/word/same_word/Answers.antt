@@ -1,7 +1,7 @@
 -- `same_word` meets its contract: words of two first bytes are not the same.
 use Rattle.std.proofs.Common.{sym, ap, ◌∙◌}
 use Rattle.expression.specs.Label.{same}
-use Rattle.expression.proofs.Labels.{first-differs, same_is}
+use Rattle.expression.proofs.Named.{first-differs, same_is}
 use Rattle.expression.proofs.word.same_word.Goals as goal
 
 pub returns-in-Some-Some : goal.returns-in-Some-Some

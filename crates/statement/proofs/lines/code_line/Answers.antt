@@ -7,7 +7,7 @@ use Rattle.token.specs.Token.{word, tokens, past}
 use Rattle.token.specs.Scan.{WholeWord}
 use Rattle.token.proofs.Runs.{run-part}
 use Rattle.token.proofs.Tokens.{token-read}
-use Rattle.expression.specs.Label.{address_in}
+use Rattle.expression.specs.Labels.{addresses}
 use Rattle.statement.specs.Evaluation.{evaluated_line}
 use Rattle.statement.specs.Line.{by_colon, token_line, is_spaced}
 use Rattle.statement.proofs.Saying.{word_end_lem}
@@ -30,7 +30,7 @@ returns-in-Word-clause-line c =
     let l = x.line.now in
     let s = c.in-Word.start in
     let e = c.in-Word.stop in
-    let a = address_in x.source.now x.labels.now in
+    let a = addresses x.labels in
     let ts = tokens (drop e l) in
     let w : WholeWord l 0 (Word s e) = (token-read _ _ _ c.in-Word.ensures).1.1 in
     let tok : tokens l ≡ word (slice s e l) ∷ ts = (token-read _ _ _ c.in-Word.ensures).0 in

@@ -4,7 +4,7 @@ use mathlib.Core.Bool.{◌||◌, not}
 use Rattle.token.specs.Byte.{is_blank}
 use Rattle.token.specs.Token.{tokens}
 use Rattle.token.proofs.Tokens.{token-read}
-use Rattle.expression.specs.Label.{address_in}
+use Rattle.expression.specs.Labels.{addresses}
 use Rattle.expression.specs.Grammar.{parse}
 use Rattle.statement.specs.Field.{operands_evaluated}
 use Rattle.statement.specs.Operand.{operands_at}
@@ -17,12 +17,12 @@ pub returns-in_err-operand_values-clause-line : goal.returns-in_err-operand_valu
 returns-in_err-operand_values-clause-line c =
     let x = c.args in
     rw c.from_residual.ensures
-    (malformed (address_in x.source.now x.labels.now) x.i (is_blank (get_or x.line.now x.stop 0)) (operands_at (slots x.i) (tokens (drop x.stop x.line.now))) (rw c.slots_of-slots.ensures at c.in_err-operand_values.ensures))
+    (malformed (addresses x.labels) x.i (is_blank (get_or x.line.now x.stop 0)) (operands_at (slots x.i) (tokens (drop x.stop x.line.now))) (rw c.slots_of-slots.ensures at c.in_err-operand_values.ensures))
 
 pub returns-then-enough-clause-line : goal.returns-then-enough-clause-line
 returns-then-enough-clause-line c =
     let x = c.args in
-    let a = address_in x.source.now x.labels.now in
+    let a = addresses x.labels in
     let sp = is_blank (get_or x.line.now x.stop 0) in
     let g = c.in_ok-operand_values in
     let ts = tokens (drop g.next x.line.now) in
@@ -35,12 +35,12 @@ returns-else-enough-clause-line c =
     let x = c.args in
     let sp = is_blank (get_or x.line.now x.stop 0) in
     let s : sp || not (has_operands (slots x.i)) ≡ false = rw (c.blank_at.ensures, c.has_operands.ensures, c.slots_of-slots.ensures) at c.if-enough.false in
-    unspaced (address_in x.source.now x.labels.now) x.i sp (operands_at (slots x.i) (tokens (drop x.stop x.line.now))) s
+    unspaced (addresses x.labels) x.i sp (operands_at (slots x.i) (tokens (drop x.stop x.line.now))) s
 
 pub returns-in-Word : goal.returns-in-Word
 returns-in-Word c =
     let x = c.args in
-    let a = address_in x.source.now x.labels.now in
+    let a = addresses x.labels in
     let g = c.in_ok-operand_values in
     let ts = tokens (drop g.next x.line.now) in
     let h : parse g.operand_values ts ≡ operands_evaluated a (operands_at (slots x.i) (tokens (drop x.stop x.line.now))) = rw c.slots_of-slots.ensures at g.ensures in

@@ -1,6 +1,6 @@
 -- `word_line` meets its contract.
 use Rattle.token.proofs.Tokens.{place_read}
-use Rattle.expression.specs.Label.{address_in}
+use Rattle.expression.specs.Labels.{addresses}
 use Rattle.statement.proofs.Parts.{word-part}
 use Rattle.statement.proofs.lines.word_line.Goals as goal
 
@@ -10,7 +10,7 @@ label_line-requires c =
     (c.requires.0, c.requires.1, place.0, place.1, c.requires.2)
 
 pub returns-in-Some-clause-line : goal.returns-in-Some-clause-line
-returns-in-Some-clause-line c = rw (← (place_read _ _ _ _ c.in-Some.ensures).0) (c.label_line.ensures.line (address_in c.args.source.now c.args.labels.now))
+returns-in-Some-clause-line c = rw (← (place_read _ _ _ _ c.in-Some.ensures).0) (c.label_line.ensures.line (addresses c.args.labels))
 
 pub returns-in_err-i-clause-line : goal.returns-in_err-i-clause-line
 returns-in_err-i-clause-line c =

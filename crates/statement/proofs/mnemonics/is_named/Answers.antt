@@ -1,6 +1,6 @@
 -- `is_named` meets its contract: the letter of I is the word's last, and the row's name stands before it.
 use Rattle.std.proofs.Common.{◌-◌, length, take, ◌∙◌, arith}
-use Rattle.expression.proofs.Labels.{same_is}
+use Rattle.expression.proofs.Named.{same_is}
 use Rattle.statement.proofs.Named.{longer, empty-longer}
 use Rattle.statement.proofs.mnemonics.is_named.Goals as goal
 
