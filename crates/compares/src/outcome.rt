@@ -11,7 +11,8 @@ use isa::CompareOp;
 use ordering::{CompareRow, Kind};
 use std::cmp::Ordering;
 
-// A row of whole numbers as lanes take it: the bias of its kind, and its columns with 16 ones for an outcome that counts as yes, 0 for another.
+// A row of whole numbers as lanes take it: the bias of its kind, and its columns with 16 ones for an outcome that counts as yes, 0 for
+// another.
 #[derive(Clone, Copy)]
 struct Outcomes {
     bias: u32,
@@ -47,7 +48,8 @@ fn outcomes_of(row: CompareRow) -> Outcomes
     }
 }
 
-// Whole numbers are never unordered. Two tests in place of a match on the outcome: the lane loop then has no branch, and is four times as fast.
+// Whole numbers are never unordered. Two tests in place of a match on the outcome: the lane loop then has no branch, and is four times as
+// fast.
 fn select(outcome: Ordering, below: u32, equal: u32, above: u32) -> u32
     ensures { result ≡ pick (Some outcome) below equal above above }
 {
@@ -107,8 +109,8 @@ fn float_answer(below: bool, equal: bool, above: bool, unordered: bool, x: u32, 
     )
 }
 
-// The columns go by value: where they are known, the compiler makes one instruction of the three tests. Tried: the float unit's own six tests,
-// one for each arm; twice as fast on some, but 2.7 kB larger, for which a board has no room (tests/board).
+// The columns go by value: where they are known, the compiler makes one instruction of the three tests. Tried: the float unit's own six
+// tests, one for each arm; twice as fast on some, but 2.7 kB larger, for which a board has no room (tests/board).
 fn each_float(
     below: bool,
     equal: bool,

@@ -2,38 +2,28 @@
 ghost use Rattle.std.specs.Prelude.{◌≡◌, ◌+◌, ◌≤◌, ◌<◌, ◌^◌, length, get_or};
 ghost use Rattle.little_endian.specs.Numbers.{number_at, with_number};
 
-fn byte(memory: &[u8], a: usize) -> u32
-    requires { a < length memory.now }
-    ensures { (result ≡ get_or memory.now a 0) × (result < 2 ^ 8) }
-{
-    memory[a] as u32
-}
-
+#[tactic(auto, unfolding(little_endian::specs::Numbers::number_at))]
 pub fn read8(memory: &[u8], a: usize) -> u32
     requires { a + 1 ≤ length memory.now }
     ensures { result ≡ number_at 1 memory.now a }
 {
-    byte(memory, a)
+    u32::from(memory[a])
 }
 
+#[tactic(auto, unfolding(little_endian::specs::Numbers::number_at))]
 pub fn read16(memory: &[u8], a: usize) -> u32
     requires { a + 2 ≤ length memory.now }
     ensures { result ≡ number_at 2 memory.now a }
 {
-    let b0 = byte(memory, a);
-    let b1 = byte(memory, a + 1);
-    b0 + b1 * 256
+    u32::from(u16::from_le_bytes([memory[a], memory[a + 1]]))
 }
 
+#[tactic(auto, unfolding(little_endian::specs::Numbers::number_at))]
 pub fn read32(memory: &[u8], a: usize) -> u32
     requires { a + 4 ≤ length memory.now }
     ensures { result ≡ number_at 4 memory.now a }
 {
-    let b0 = byte(memory, a);
-    let b1 = byte(memory, a + 1);
-    let b2 = byte(memory, a + 2);
-    let b3 = byte(memory, a + 3);
-    b0 + b1 * 256 + b2 * 65536 + b3 * 16777216
+    u32::from_le_bytes([memory[a], memory[a + 1], memory[a + 2], memory[a + 3]])
 }
 
 pub fn write8(memory: &mut [u8], a: usize, w: u32)

@@ -6,6 +6,7 @@ ghost use Rattle.memory.specs.Operation.{lanes_at, with_lanes, load_lanes, of_la
 use crate::bytes::{read32, write32};
 use crate::place::locate;
 use answer::Reason;
+use std::array;
 
 // What the address of a vector form must be a multiple of.
 const ALIGNMENT: usize = 4;
@@ -17,11 +18,7 @@ fn read_lanes(memory: &[u8], a: usize) -> [u32; 16]
     requires { a + 64 ≤ length memory.now }
     ensures { result ≡ lanes_at memory.now a }
 {
-    let mut v = [0u32; 16];
-    for j in 0..16usize {
-        v[j] = read32(memory, a + 4 * j);
-    }
-    v
+    array::from_fn(|j| read32(memory, a + 4 * j))
 }
 
 pub fn load_lanes(memory: &[u8], base: u32, offset: u32) -> Result<[u32; 16], Reason>
@@ -44,8 +41,8 @@ fn write_lanes(memory: &mut [u8], a: usize, mask: u32, v: [u32; 16])
     requires { a + 64 ≤ length memory.old }
     ensures { memory.new ≡ with_lanes memory.old a mask v }
 {
-    for j in 0..16usize {
-        write_lane(memory, a + 4 * j, vector::is_on(mask, j), v[j]);
+    for (j, w) in v.iter().enumerate() {
+        write_lane(memory, a + 4 * j, vector::is_on(mask, j), *w);
     }
 }
 

@@ -7,7 +7,4 @@ use Rattle.memory.proofs.Stepping.{Stepping}
 use Rattle.memory.proofs.lanes.write_lanes.Given as goal
 
 abbrev pub invariant-loop-j : goal.invariant-loop-j
-invariant-loop-j l = Stepping 16 (λ k xs. cond (is_on l.mask k) (with_number 4 xs (l.a + 4 * k) (lane l.v k)) xs) l.initial.memory l.memory l.j
-
-abbrev pub decreases-loop-j : goal.decreases-loop-j
-decreases-loop-j l = 16 - l.j
+invariant-loop-j l = Stepping 16 (λ k xs. cond (is_on l.mask k) (with_number 4 xs (l.a + 4 * k) (lane l.fn.v k)) xs) l.initial.memory l.memory l.j

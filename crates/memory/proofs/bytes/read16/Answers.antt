@@ -1,9 +1,0 @@
--- `bytes::read16` meets its contract.
-use native.Mathlib.Nat.{add-zero}
-use native.Mathlib.Omega.{arith}
-use Rattle.little_endian.specs.Numbers.{number_at}
-use Rattle.memory.proofs.bytes.read16.Goals as goal
-
-pub returns : goal.returns
-unfolding number_at
-returns c = simp add-zero (omega arith)

@@ -1,9 +1,0 @@
--- `bytes::read32` meets its contract.
-use native.Mathlib.Nat.{add-zero, add_assoc}
-use native.Mathlib.Omega.{arith}
-use Rattle.little_endian.specs.Numbers.{number_at}
-use Rattle.memory.proofs.bytes.read32.Goals as goal
-
-pub returns : goal.returns
-unfolding number_at
-returns c = simp (add-zero, add_assoc) (omega arith)
