@@ -33,20 +33,18 @@ pub fn write8(memory: &mut [u8], a: usize, w: u32)
     memory[a] = (w % 256) as u8;
 }
 
+#[tactic(auto, unfolding(little_endian::specs::Numbers::with_number))]
 pub fn write16(memory: &mut [u8], a: usize, w: u32)
     requires { a + 2 ≤ length memory.old }
     ensures { memory.new ≡ with_number 2 memory.old a w }
 {
-    memory[a] = (w % 256) as u8;
-    memory[a + 1] = (w / 256 % 256) as u8;
+    memory[a..a + 2].copy_from_slice(&((w % 65536) as u16).to_le_bytes());
 }
 
 pub fn write32(memory: &mut [u8], a: usize, w: u32)
     requires { a + 4 ≤ length memory.old }
     ensures { memory.new ≡ with_number 4 memory.old a w }
 {
-    memory[a] = (w % 256) as u8;
-    memory[a + 1] = (w / 256 % 256) as u8;
-    memory[a + 2] = (w / 65536 % 256) as u8;
-    memory[a + 3] = (w / 16777216 % 256) as u8;
+    write16(memory, a, w);
+    write16(memory, a + 2, w / 65536);
 }
