@@ -1,11 +1,11 @@
 -- Which number a call gives, by its tests in order.
-use Prim.Native.Nat.{ℕ, ◌<◌, ◌≤◌}
+use Prim.Native.Nat.{ℕ, ◌≤◌}
 use mathlib.Core.Bool.{Bool, true, false, cond}
 use mathlib.Core.List.{List}
 use mathlib.Core.Option.{Option, none, some}
 use mathlib.Core.Path.{◌≡◌, refl}
 use native.Mathlib.Omega.{arith}
-use borrow.Author.Tests.{lt-ltb, le-ltb, ltb-false}
+use borrow.Author.Tests.{ltb-false}
 use lib.ListN.{length}
 use Rattle.answer.specs.Refusal.{first_that_applies, refused_or}
 use Rattle.machine.specs.State.{State}
@@ -16,18 +16,6 @@ use Rattle.night.specs.Types.{Kept}
 -- Before the run.
 
 module _ (bytes : ℕ) (kept : Kept) (minute : ℕ) where
-  pub small-number : bytes < 128 → some 20 ≡ clock_number bytes kept minute
-  unfolding clock_number first_that_applies
-  small-number h = rw (lt-ltb bytes 128 h)
-
-  pub minute-number : 128 ≤ bytes → bad_minute kept minute ≡ true → some 19 ≡ clock_number bytes kept minute
-  unfolding clock_number first_that_applies
-  minute-number h e = rw (le-ltb bytes 128 h, e)
-
-  pub no_number : 128 ≤ bytes → bad_minute kept minute ≡ false → none ≡ clock_number bytes kept minute
-  unfolding clock_number first_that_applies
-  no_number h e = rw (le-ltb bytes 128 h, e)
-
   pub clock-taken : clock_number bytes kept minute ≡ none → (128 ≤ bytes) × (bad_minute kept minute ≡ false)
   unfolding clock_number first_that_applies
   clock-taken h = let r = go (small_memory bytes) (bad_minute kept minute) h in (ltb-false bytes 128 r.0, r.1)

@@ -1,7 +1,5 @@
--- The cases of the code's answer, as values and numbers of the papers.
+-- What a call reports.
 use Rattle.std.specs.Prelude.{ℕ}
-use Rattle.answer.specs.Answer.{Answer, given, refused}
-use Rattle.night.specs.Types.{TickAnswer, Reported, Refused}
 
 -- "minute, skipped and relays"
 pub record Report : Type 0 where
@@ -11,7 +9,3 @@ pub record Report : Type 0 where
 
 abbrev pub report : ℕ → ℕ → ℕ → Report
 report minute skipped relays = record { minute = minute; skipped = skipped; relays = relays }
-
-abbrev pub answered : TickAnswer → Answer Report
-answered (Reported minute skipped relays) = given (report minute skipped relays)
-answered (Refused number) = refused number

@@ -1,5 +1,5 @@
 -- What is proved of the definitions.
-use Rattle.std.specs.Prelude.{ℕ, ◌+◌, ◌%◌, ◌≤◌, Bool, true, false, List, [], ◌∷◌, ◌++◌, ◌≡◌, length}
+use Rattle.std.specs.Prelude.{ℕ, ◌+◌, ◌%◌, ◌≤◌, Bool, true, false, List, [], ◌∷◌, ◌++◌, ◌≡◌, length, Some}
 use Rattle.std.proofs.Math.Option.{none}
 use Rattle.machine.specs.State.{State}
 use Rattle.machine.specs.WellFormed.{well_formed}
@@ -8,15 +8,15 @@ use Rattle.interpreter.specs.Run.{number}
 use Rattle.night.specs.Clock.{day_minutes, skipped}
 use Rattle.night.specs.Refusal.{tick_number}
 use Rattle.night.specs.Tick.{Outcome, issues_per_minute, run_from, tick, tick_issues}
-use Rattle.night.specs.Types.{Kept, Minute}
+use Rattle.night.specs.Types.{Kept}
 
 -- The skipped minutes.
 
 -- from one reading, one minute more than were skipped leads to the other
 pub record Between (kept minute : ℕ) : Type 0 where
-  pub reaches : (kept + (skipped (Minute kept) minute false + 1)) % day_minutes ≡ minute
+  pub reaches : (kept + (skipped (Some kept) minute false + 1)) % day_minutes ≡ minute
   -- and those before it are neither of the two readings
-  pub strictly : (i : ℕ) → 1 ≤ i → i ≤ skipped (Minute kept) minute false
+  pub strictly : (i : ℕ) → 1 ≤ i → i ≤ skipped (Some kept) minute false
       → ((kept + i) % day_minutes ≡ minute → ⊥) × ((kept + i) % day_minutes ≡ kept → ⊥)
 
 -- "Skipped minutes lie strictly between two readings, forward round midnight"

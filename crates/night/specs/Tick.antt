@@ -1,15 +1,17 @@
 -- What a call hands back and leaves (document 02, T-14).
-use Rattle.std.specs.Prelude.{ℕ, Bool, List, []}
+use Rattle.std.specs.Prelude.{ℕ, Bool, List, [], Result, Ok, Err, Some}
 use Rattle.answer.specs.Answer.{Answer, given, refused}
-use Rattle.answer.specs.Refusal.{refused_or}
+use Rattle.answer.specs.declared.refusal.Refusal.{Refusal}
+use Rattle.answer.specs.Refusal.{row_of, refused_or}
+use Rattle.machine.specs.declared.record.Machine.{Machine}
 use Rattle.machine.specs.State.{State, state}
 use Rattle.interpreter.specs.Demand.{Issue}
 use Rattle.interpreter.specs.Run.{run_issues, run_reached}
-use Rattle.night.specs.Answer.{Report, report, answered}
+use Rattle.night.specs.Answer.{Report, report}
 use Rattle.night.specs.Bytes.{with_reading, relays_in}
 use Rattle.night.specs.Clock.{skipped}
 use Rattle.night.specs.Refusal.{tick_number}
-use Rattle.night.specs.Types.{Kept, Minute, Tick}
+use Rattle.night.specs.Types.{Kept, Tick}
 
 -- an answer, the minute kept for the next call, and the machine handed back or left
 pub record Outcome : Type 0 where
@@ -17,8 +19,16 @@ pub record Outcome : Type 0 where
   pub kept : Kept
   pub left : State
 
-abbrev pub outcome : Tick → List ℕ → List ℕ → Outcome
-outcome r registers memory = record { answer = answered r.answer; kept = r.kept; left = state r.machine registers memory }
+-- by the code's result: of a call that is not refused
+abbrev pub tick_outcome : Tick → List ℕ → List ℕ → Outcome
+tick_outcome r registers memory =
+    record { answer = given (report r.minute r.skipped r.relays); kept = Some r.minute; left = state r.machine registers memory }
+
+-- and of a call with the record m and a minute kept, which the caller still has where it is refused
+abbrev pub outcome : Result Tick Refusal → Kept → Machine → List ℕ → List ℕ → Outcome
+outcome (Ok r) kept m registers memory = tick_outcome r registers memory
+outcome (Err refusal) kept m registers memory =
+    record { answer = refused (row_of refusal); kept = kept; left = state m registers memory }
 
 -- "runs 4,096 issues"
 abbrev pub issues_per_minute : ℕ
@@ -40,7 +50,7 @@ unfoldable pub accepted : List ℕ → State → Kept → ℕ → Bool → Outco
 accepted p s kept minute marked =
     record {
       answer = given (report minute (skipped kept minute marked) (relays_in (run_to p s kept minute marked).memory));
-      kept = Minute minute;
+      kept = Some minute;
       left = run_to p s kept minute marked;
     }
 

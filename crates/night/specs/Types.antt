@@ -1,6 +1,7 @@
--- The types that the code declares, and those of the crates below, by their names in the definitions.
-pub use Rattle.night.specs.declared.outcome.Kept.{Kept}
-pub use Rattle.night.specs.declared.outcome.Kept.TheVariants.{Nothing, Minute}
-pub use Rattle.night.specs.declared.outcome.TickAnswer.{TickAnswer}
-pub use Rattle.night.specs.declared.outcome.TickAnswer.TheVariants.{Reported, Refused}
+-- The types that the code declares, by their names in the definitions, and what is kept.
+use Rattle.std.specs.Prelude.{ℕ, Option}
 pub use Rattle.night.specs.declared.outcome.Tick.{Tick}
+
+-- the minute of the last call that was not refused, if there was one
+abbrev pub Kept : Type 0
+Kept = Option ℕ

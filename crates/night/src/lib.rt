@@ -7,5 +7,5 @@ mod outcome;
 mod ticking;
 
 pub use clock::clock_verdict;
-pub use outcome::{Kept, Tick, TickAnswer};
+pub use outcome::Tick;
 pub use ticking::tick;
