@@ -15,6 +15,7 @@ pub fn turns(machine: Machine) -> [u32; 8]
 pub fn with_turns(mut machine: Machine, turns: [u32; 8]) -> Machine
     ensures { result ≡ with_turns machine turns }
 {
+    // The counts go by number: nothing is known of what a zip over iter_mut writes (the library's page says so).
     for (t, entry) in machine.threads.iter_mut().enumerate() {
         entry.turns = turns[t];
     }

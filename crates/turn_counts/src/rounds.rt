@@ -19,7 +19,8 @@ pub fn count_rounds(machine: Machine, mut turns: [u32; 8], passed: u64) -> [u32;
     ensures { result ≡ after_rounds machine passed turns }
 {
     for (thread, has) in turns.iter_mut().enumerate() {
-        if is_running(machine.threads[thread].status) {
+        let running = is_running(machine.threads[thread].status);
+        if running {
             let rounds = passed / 8 + (passed % 8 + 7 - u64::from(between(machine, thread))) / 8;
             *has = many_more(*has, rounds);
         }
