@@ -4,10 +4,7 @@ use std::{io, str};
 
 // Standard error takes text: bytes that are none are shown as "?".
 fn shown(bytes: &[u8]) -> &str {
-    match str::from_utf8(bytes) {
-        Ok(text) => text,
-        Err(_) => "?",
-    }
+    str::from_utf8(bytes).unwrap_or("?")
 }
 
 // A line about the arguments.
@@ -32,6 +29,7 @@ pub fn fail(rt: &impl Eprint, what: &[u8], error: io::Error) {
     let _ = eprintln!(rt; "korvammel: can't {what}: {reason}");
 }
 
+// By number and not by `Refusal`: what is said of a number that the table has not stays said, and no caller is asked for less.
 fn meaning(number: u8) -> &'static str {
     match number {
         1 => "a program is 1 to 16,384 whole words of four bytes",

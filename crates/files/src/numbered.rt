@@ -1,8 +1,9 @@
 // A stream that the command opens beside the standard ones, by the name that the system has for its number, as "/dev/fd/3".
 ghost use Rattle.io.specs.Counts.{IsPrefixLen};
+ghost use Rattle.files.specs.Reading.{size_of};
 
 use crate::complaints::fail;
-use crate::reading::{Filled, read_stream};
+use crate::reading::{Failed, read_stream};
 use crate::writing::{write_stream, write_synced};
 use std::fs;
 use std::fs::OpenOptions;
@@ -14,17 +15,14 @@ pub fn read_numbered(
     name: &str,
     failure: &[u8],
     buf: &mut [u8],
-) -> Filled
-    ensures { IsPrefixLen result.size buf.new }
+) -> Result<usize, Failed>
+    ensures { IsPrefixLen (size_of result) buf.new }
 {
     match fs::open(rt, name) {
         Ok(mut file) => read_stream(rt, &mut file, failure, buf),
         Err(error) => {
             fail(rt, failure, error);
-            Filled {
-                size: 0,
-                failed: true,
-            }
+            Err(Failed { size: 0 })
         }
     }
 }

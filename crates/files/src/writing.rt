@@ -12,14 +12,9 @@ const NAME: usize = 4096;
 
 const PART: usize = 5;
 
-// Writes to a stream, and answers whether all was written; `failure` is what a complaint says can't be done.
-pub fn write_stream<W: Write>(
-    rt: &impl Eprint,
-    stream: &mut W,
-    failure: &[u8],
-    bytes: &[u8],
-) -> bool {
-    match stream.write_all(bytes) {
+// Whether a call succeeded; where it did not, that is complained of: `failure` is what can't be done.
+fn succeeded(rt: &impl Eprint, failure: &[u8], done: io::Result<()>) -> bool {
+    match done {
         Ok(()) => true,
         Err(error) => {
             fail(rt, failure, error);
@@ -28,16 +23,27 @@ pub fn write_stream<W: Write>(
     }
 }
 
+// Writes to a stream, and answers whether all was written; `failure` is what a complaint says can't be done.
+pub fn write_stream<W: Write>(
+    rt: &impl Eprint,
+    stream: &mut W,
+    failure: &[u8],
+    bytes: &[u8],
+) -> bool {
+    succeeded(rt, failure, stream.write_all(bytes))
+}
+
 // Writes the bytes of a program's words to standard output.
 pub fn write_words(rt: &(impl Print + Eprint), words: &[u32]) {
     let mut bytes = [0u8; PROGRAM_BYTES];
-    let length = program::bytes(words, &mut bytes);
-    write_stream(
-        rt,
-        &mut io::writer(rt),
-        b"write the program",
-        &bytes[..length],
-    );
+    if let Ok(length) = program::bytes(words, &mut bytes) {
+        write_stream(
+            rt,
+            &mut io::writer(rt),
+            b"write the program",
+            &bytes[..length],
+        );
+    }
 }
 
 fn write_to_device<F: Write + OpenFile>(stream: &mut F, bytes: &[u8]) -> io::Result<()> {
@@ -52,13 +58,7 @@ pub fn write_synced<F: Write + OpenFile>(
     failure: &[u8],
     bytes: &[u8],
 ) -> bool {
-    match write_to_device(stream, bytes) {
-        Ok(()) => true,
-        Err(error) => {
-            fail(rt, failure, error);
-            false
-        }
-    }
+    succeeded(rt, failure, write_to_device(stream, bytes))
 }
 
 // Makes a new file of these bytes; one that can't be written whole is removed again.
@@ -87,14 +87,11 @@ fn write_part(rt: &(impl Files + Eprint), part: &str, name: &str, bytes: &[u8]) 
     if !write_new(rt, part, bytes) {
         return false;
     }
-    match fs::rename(rt, part, name) {
-        Ok(()) => true,
-        Err(error) => {
-            fail(rt, b"give the file its name", error);
-            let _ = fs::remove_file(rt, part);
-            false
-        }
+    let named = succeeded(rt, b"give the file its name", fs::rename(rt, part, name));
+    if !named {
+        let _ = fs::remove_file(rt, part);
     }
+    named
 }
 
 // Writes a file whole or not at all: under its name with .part behind it, which becomes its name once all is written.

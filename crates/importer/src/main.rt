@@ -2,7 +2,6 @@
 #![tactic(auto)]
 
 use answer::PROGRAM_WORDS;
-use intel_hex::Imported;
 use program::PROGRAM_BYTES;
 
 // The most bytes of a file that are taken: 16 for each byte of the longest program, where a record of one byte and its CR LF are 15. The
@@ -13,20 +12,17 @@ const ROOM: usize = LONGEST + 1;
 
 fn import(rt: &(impl Print + Eprint), text: &[u8]) {
     let mut words = [0u32; PROGRAM_WORDS];
-    let answer = intel_hex::import(text, &mut words);
-    match answer {
-        Imported::Refused(number, line) => files::refuse_at(rt, line, number),
-        Imported::Words(count) => files::write_words(rt, &words[..count]),
+    match intel_hex::import(text, &mut words) {
+        Ok(count) => files::write_words(rt, &words[..count]),
+        Err(refused) => files::refuse_at(rt, refused.line, refused.refusal.number()),
     }
 }
 
 fn main(rt: HostRuntime) {
     let mut text = [0u8; ROOM];
-    let filled = files::read_stream(&rt, &mut rt.reader(), b"read the file", &mut text);
-    let size = filled.size;
-    if filled.failed {
+    let Ok(size) = files::read_stream(&rt, &mut rt.reader(), b"read the file", &mut text) else {
         return;
-    }
+    };
     if LONGEST < size {
         files::complain(
             &rt,

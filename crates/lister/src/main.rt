@@ -7,11 +7,10 @@ use std::io;
 
 fn main(rt: HostRuntime) {
     let mut input = [0u8; INPUT_BYTES];
-    let filled = files::read_stream(&rt, &mut rt.reader(), b"read standard input", &mut input);
-    let size = filled.size;
-    if filled.failed {
+    let Ok(size) = files::read_stream(&rt, &mut rt.reader(), b"read standard input", &mut input)
+    else {
         return;
-    }
+    };
     let mut text = [0u8; LONGEST];
     let length = listing::list(&input[..size], &mut text);
     files::write_stream(

@@ -8,7 +8,7 @@ pub slice_bounds-read_stream-end-2 : goal.slice_bounds-read_stream-end-2
 slice_bounds-read_stream-end-2 c = sym (length-replicate {A = ℕ} 1048577 0)
 
 pub slice_bounds-text-end : goal.slice_bounds-text-end
-slice_bounds-text-end c = c.read_stream-filled.ensures.0
+slice_bounds-text-end c = c.in-Ok.ensures.0
 
 pub slice_bounds-import-end : goal.slice_bounds-import-end
-slice_bounds-import-end c = c.read_stream-filled.ensures.1
+slice_bounds-import-end c = c.in-Ok.ensures.1

@@ -4,7 +4,7 @@ use Rattle.text.proofs.Shown.{shown}
 use Rattle.files.proofs.writing.write_words.Goals as goal
 
 pub slice_bounds-bytes-end : goal.slice_bounds-bytes-end
-slice_bounds-bytes-end g c = bytes-within _ _ _ _ c.bytes-length.ensures
+slice_bounds-bytes-end g c = bytes-within _ _ _ _ c.in-Ok.ensures.written
 
-pub slice_bounds-write_stream-end-2 : goal.slice_bounds-write_stream-end-2
-slice_bounds-write_stream-end-2 g c = shown _ _ (bytes-within _ _ _ _ c.bytes-length.ensures)
+pub slice_bounds-write_stream-end-in-Ok : goal.slice_bounds-write_stream-end-in-Ok
+slice_bounds-write_stream-end-in-Ok g c = shown _ _ (bytes-within _ _ _ _ c.in-Ok.ensures.written)

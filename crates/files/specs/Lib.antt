@@ -1,0 +1,2 @@
+-- Files and streams: what the contracts cite.
+pub mod Reading
