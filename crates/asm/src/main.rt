@@ -16,10 +16,8 @@ fn assemble(rt: &(impl Print + Eprint), source: &[u8]) {
 
 fn main(rt: HostRuntime) {
     let mut source = [0u8; ROOM];
-    let filled = files::read_stream(&rt, &mut rt.reader(), b"read the source", &mut source);
-    let size = filled.size;
-    if filled.failed {
+    let Ok(size) = files::read_stream(&rt, &mut rt.reader(), b"read the source", &mut source) else {
         return;
-    }
+    };
     assemble(&rt, &source[..size]);
 }

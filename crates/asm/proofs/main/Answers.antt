@@ -8,7 +8,7 @@ pub slice_bounds-read_stream-end-2 : goal.slice_bounds-read_stream-end-2
 slice_bounds-read_stream-end-2 c = sym (length-replicate {A = ℕ} 65537 0)
 
 pub slice_bounds-source-end : goal.slice_bounds-source-end
-slice_bounds-source-end c = c.read_stream-filled.ensures.0
+slice_bounds-source-end c = c.in-Ok.ensures.0
 
 pub slice_bounds-assemble-end : goal.slice_bounds-assemble-end
-slice_bounds-assemble-end c = c.read_stream-filled.ensures.1
+slice_bounds-assemble-end c = c.in-Ok.ensures.1
