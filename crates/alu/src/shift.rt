@@ -7,11 +7,10 @@ ghost use Rattle.alu.specs.Binary.{binary};
 pub fn ashr(x: u32, y: u32) -> u32
     ensures { result ≡ binary Ashr x y }
 {
-    let n = y % 32;
     if x < 2147483648 {
-        x >> n
+        x.wrapping_shr(y)
     } else {
-        4294967295 - ((4294967295 - x) >> n)
+        !(!x).wrapping_shr(y)
     }
 }
 
