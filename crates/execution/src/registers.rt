@@ -35,7 +35,7 @@ pub fn set_vector(regs: &mut [u32], t: usize, i: u32, v: [u32; 16])
     ensures { regs.new ≡ with_vector regs.old t i v }
 {
     let first = 512 + 1024 * t + 16 * (i as usize);
-    // By a loop: what `copy_from_slice` leaves is a list of three parts, and the definition's is one of sixteen writes.
+    // By a loop: with `copy_from_slice` the compiler moves the lanes through memory, and a loop of vector adds takes twice the instructions.
     for (j, x) in v.iter().enumerate() {
         regs[first + j] = *x;
     }
