@@ -68,7 +68,8 @@ pub fn take_words(image: &[u8], at: usize, n: usize, registers: &mut [u32], from
     }
 }
 
-// n times sixteen bytes taken from a place, and stored from a place on: so many move as one.
+// n times sixteen bytes taken from a place, and stored from a place on. They have a copy of their own, so that they move as one: between two
+// slices they would first be compared for overlap (docs/SPEED.md).
 pub fn copy_sixteens(source: &[u8], from: usize, n: usize, target: &mut [u8], at: usize)
     requires { (from + 16 * n ≤ length source.now) × (at + 16 * n ≤ length target.old) }
     ensures { Grown target.old target.new at (at + 16 * n) (take (16 * n) (drop from source.now)) }
@@ -76,6 +77,8 @@ pub fn copy_sixteens(source: &[u8], from: usize, n: usize, target: &mut [u8], at
     for k in 0..n {
         let here = from + 16 * k;
         let there = at + 16 * k;
-        target[there..there + 16].copy_from_slice(&source[here..here + 16]);
+        let mut sixteen = [0u8; 16];
+        sixteen.copy_from_slice(&source[here..here + 16]);
+        target[there..there + 16].copy_from_slice(&sixteen);
     }
 }

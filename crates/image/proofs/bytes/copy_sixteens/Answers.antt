@@ -20,7 +20,7 @@ loop-k-preserved c =
     let m = a.source.now in
     let long : length (take 16 (drop here m)) ≡ 16 = length-take-le 16 (drop here m) (rw (length-drop here m) (omega (arith, c.loop-k-test.true, c.requires.0))) in
     let e : here + 16 - here ≡ 16 = omega arith in
-    let new = c.copy_from_slice.ensures.after ∙ ap (λ n. take n (drop here m)) e in
+    let new = c.copy_from_slice-in-loop-k.ensures.after ∙ (c.copy_from_slice.ensures.after ∙ ap (λ n. take n (drop here m)) e) in
     grown-sixteens a.at a.from l.k m l.invariant (grown-put there (take 16 (drop here m)) new (omega (arith, c.loop-k-test.true, c.requires.1, l.invariant.size)) (omega (arith, long)) (omega arith))
 
 pub returns : goal.returns
