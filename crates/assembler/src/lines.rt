@@ -15,8 +15,8 @@ use isa::Instruction;
 use statement::{Line, OperandValues, line_of, up_to, word_of};
 use token::past_run;
 
-// A pass over the lines, by what it refuses. The walk is one; what a pass does with a line is told apart in `judge` alone, and the rules of
-// document 02 are by this same choice (`rule_of`).
+// A pass over the lines, by what it refuses. The walk is one; what a pass does with a line is told apart in `judge` alone, and the rules
+// of document 02 are by this same choice (`rule_of`).
 #[derive(Clone, Copy, Debug, PartialEq, Eq)]
 pub enum Pass {
     Texts,

@@ -23,7 +23,8 @@ pub enum Value {
 // What 0 is held as.
 pub const ZERO: u64 = 0x100000000;
 
-// The value, if it is within plus or minus 2^31.
+// The value, if it is within plus or minus 2^31. That it is so stands in the contracts (`InRange`), and not in the type: what specs/
+// defines reckons with `Known n` of any n.
 #[tactic(auto, unfolding(crate::specs::Value::bounded))]
 pub fn bound(n: u64) -> Value
     ensures value { result ≡ bounded n }

@@ -27,7 +27,7 @@ fn word_from(text: &[u8], place: usize) -> &[u8]
     &text[place..past_run(text, place)]
 }
 
-// Whether a word is the one that stands in the source from a place on. The first byte is looked at before the others: most words end there.
+// Whether a word is the one that stands in the source from a place on. The first byte is looked at before the others: most end there.
 fn same_word(source: &[u8], place: usize, word: &[u8]) -> bool
     ensures { result ≡ same (leading_word (drop place source.now)) word.now }
 {

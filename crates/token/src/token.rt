@@ -13,7 +13,8 @@ pub enum Token {
     Mark(u8, usize),
 }
 
-// How many blanks a text begins with.
+// How many blanks a text begins with. Beside `run`, and not one over a closure: that asks for the closure's test as a ghost value, and is
+// longer than these two chains.
 fn blanks(text: &[u8]) -> usize
     ensures { result ≡ leading_blanks text.now }
 {
