@@ -1,4 +1,5 @@
-// R opcodes 33 to 36: the four operations on two patterns.
+// R opcodes 33 to 36: the four operations on two patterns. Four functions: each is one line, and one that takes the operation as a closure
+// saves none.
 ghost use Rattle.std.specs.Prelude.{◌≡◌};
 ghost use Rattle.float.specs.Floats.{fadd_of, fsub_of, fmul_of, fdiv_of};
 

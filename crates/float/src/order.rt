@@ -1,4 +1,4 @@
-// R opcodes 37 to 42: the six compares of two patterns.
+// R opcodes 37 to 42: the six compares of two patterns. Six functions: each is one line, and one that takes the test as a closure saves none.
 ghost use Rattle.std.specs.Prelude.{◌≡◌};
 ghost use Rattle.float.specs.Floats.{feq_of, fne_of, fgt_of, fge_of, flt_of, fle_of};
 

@@ -1,4 +1,5 @@
-// Numbers in bytes, the lowest byte first.
+// Numbers in bytes, the lowest byte first. A function for each size: each is the library's method of its own type, and a size as a const
+// parameter would need a loop.
 ghost use Rattle.std.specs.Prelude.{◌≡◌, ◌+◌, ◌≤◌, ◌<◌, ◌^◌, length, get_or};
 ghost use Rattle.little_endian.specs.Numbers.{number_at, with_number};
 

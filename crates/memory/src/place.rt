@@ -5,7 +5,7 @@ ghost use Rattle.memory.specs.Place.{biased, place};
 
 use answer::Reason;
 
-// The address with 2^32 added, so that it is never negative.
+// The address with 2^32 added, so that it is never negative. The sign by hand: the sum of two i64 would take four conversions more.
 fn biased(base: u32, offset: u32) -> usize
     ensures { result ≡ biased base offset }
 {
