@@ -26,7 +26,7 @@ fn put_four(registers: &[u32], from: usize, buffer: &mut [u8], at: usize)
     put_word(w3, buffer, at + 12);
 }
 
-// n times four words stored from a place on.
+// n times four words stored from a place on. By number: a zip of four words with sixteen bytes is no plainer.
 pub fn put_words(registers: &[u32], from: usize, n: usize, buffer: &mut [u8], at: usize)
     requires { (from + 4 * n ≤ length registers.now) × (at + 16 * n ≤ length buffer.old) }
     ensures { Grown buffer.old buffer.new at (at + 16 * n) (bytes_of (4 * n) (drop from registers.now)) }
@@ -44,21 +44,23 @@ pub fn word_at(image: &[u8], at: usize) -> u32
     u32::from_le_bytes([image[at], image[at + 1], image[at + 2], image[at + 3]])
 }
 
-// Four words taken from a place of an image, and stored from a place on: all are read before one is stored.
+// Four words taken from a place of an image, and stored from a place on: all are read before one is stored. Place by place: by copy_from_slice
+// they would not move as one, and the longest image be converted in 79,000 instructions in place of 60,000.
 fn take_four(image: &[u8], at: usize, registers: &mut [u32], from: usize)
     requires { (at + 16 ≤ length image.now) × (from + 4 ≤ length registers.old) }
     ensures { Grown registers.old registers.new from (from + 4) (words_of 4 (drop at image.now)) }
 {
-    let words = [
-        word_at(image, at),
-        word_at(image, at + 4),
-        word_at(image, at + 8),
-        word_at(image, at + 12),
-    ];
-    registers[from..from + 4].copy_from_slice(&words);
+    let w0 = word_at(image, at);
+    let w1 = word_at(image, at + 4);
+    let w2 = word_at(image, at + 8);
+    let w3 = word_at(image, at + 12);
+    registers[from] = w0;
+    registers[from + 1] = w1;
+    registers[from + 2] = w2;
+    registers[from + 3] = w3;
 }
 
-// n times four words taken from a place of an image, and stored from a place on.
+// n times four words taken from a place of an image, and stored from a place on. By number, as above.
 pub fn take_words(image: &[u8], at: usize, n: usize, registers: &mut [u32], from: usize)
     requires { (at + 16 * n ≤ length image.now) × (from + 4 * n ≤ length registers.old) }
     ensures { Grown registers.old registers.new from (from + 4 * n) (words_of (4 * n) (drop at image.now)) }

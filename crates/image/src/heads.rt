@@ -69,7 +69,7 @@ fn opens_so(row: RecordRow, i: usize, image: &[u8], at: usize) -> bool
     }
 }
 
-// Whether every record of a row that begins at a place opens so.
+// Whether every record of a row that begins at a place opens so. By number: it is what a record's place numbers say.
 fn heads_stand(row: RecordRow, image: &[u8], at: usize) -> bool
     requires { AllNumbered row × (at + extent_of row ≤ length image.now) }
     ensures { result ≡ heads_of row image.now at }
@@ -85,7 +85,7 @@ fn heads_stand(row: RecordRow, image: &[u8], at: usize) -> bool
     true
 }
 
-// Whether every mark and every place number of the first n kinds is right.
+// Whether every mark and every place number of the first n kinds is right. By position: n may be any, and kind_at has a kind for each.
 pub fn kinds_stand(shape: Shape, n: usize, image: &[u8]) -> bool
     requires { start_of shape n ≤ length image.now }
     ensures { result ≡ heads_up_to n shape image.now }

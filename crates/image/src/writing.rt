@@ -89,7 +89,7 @@ impl Saved<'_> {
         self.put_body(kind, i, buffer, next)
     }
 
-    // Every record of a kind, of which there are so many, stored from a place on; the next place.
+    // Every record of a kind, of which there are so many, stored from a place on; the next place. By number: each record says its own.
     fn put_section(&self, kind: Kind, count: usize, buffer: &mut [u8], at: usize) -> usize
         requires { Suits self.now.shape kind self.now.registers.now self.now.memory.now × (count ≡ (row_of self.now.shape kind).count) × (at + extent_of (row_of self.now.shape kind) ≤ length buffer.old) }
         ensures { Grown buffer.old buffer.new at result (section_of (row_of self.now.shape kind) (body_of self.now.shape.form (state_of self.now) kind)) }
@@ -101,7 +101,7 @@ impl Saved<'_> {
         next
     }
 
-    // The records of the first n kinds.
+    // The records of the first n kinds. By position: `count_at` says why their counts are looked up by it.
     pub fn put_kinds(&self, n: usize, buffer: &mut [u8])
         requires { SuitsUpTo n self.now.shape self.now.registers.now self.now.memory.now × (start_of self.now.shape n ≡ length buffer.old) }
         ensures { buffer.new ≡ laid_up_to n self.now.shape (body_of self.now.shape.form (state_of self.now)) }
