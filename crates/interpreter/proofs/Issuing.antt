@@ -9,7 +9,7 @@ use Rattle.answer.specs.Answer.{given}
 use Rattle.execution.proofs.Claims.{performs, untouched, recounts, issues as execution-issues}
 use Rattle.execution.specs.Issue.{perform, issue, issue_sets_status}
 use Rattle.thread_entry.specs.Entry.{one_more_turn, many_more}
-use Rattle.machine.specs.Machine.{turns_at}
+use Rattle.machine.specs.Machine.{with_turns, turns_at}
 use Rattle.machine.specs.Rounds.{after_rounds}
 use Rattle.machine.specs.State.{State, state, counted_in, recounted}
 use Rattle.machine.proofs.Claims.{chooses, issues as machine-issues, counts-kept, counts-unseen, counting, rounds-counted}
@@ -18,11 +18,11 @@ use Rattle.machine.specs.Claims.{KeepsRecord}
 use Rattle.std.specs.Prelude.{Some, None}
 use Rattle.machine.specs.Scheduler.{some_chosen, Choice, choice, with_last}
 use Rattle.machine.specs.WellFormed.{well_formed}
-use Rattle.interpreter.specs.Answer.{spent}
+use Rattle.interpreter.specs.Answer.{stopped, stuck, spent, ending_of}
 use Rattle.interpreter.specs.Choosing.{if_chosen, performed, issued, issues, reached_by, reached, idle_ending, ending_at, entries_to, look, looks_for}
 use Rattle.interpreter.specs.Run.{accepted_run}
-use Rattle.interpreter.specs.Stretch.{Carried, Along, Awaits, Over, Stretched}
-use Rattle.interpreter.specs.Types.{Machine, Stretch}
+use Rattle.interpreter.specs.Stretch.{Carried, Along, Awaits, Over, last_look, Stretched}
+use Rattle.interpreter.specs.Types.{Machine, Stop, Spent, Stretch}
 
 -- the thread chosen is one of the eight
 pub chosen-thread : (m : Machine) (t d : ℕ) → choice m ≡ some_chosen t d → t < 8
@@ -260,18 +260,18 @@ module _ (p : List ℕ) (b : ℕ) (first : State) (m : Machine) (turns registers
 
 -- the looks of a stretch, after which the run goes on or is over
 module _ (p : List ℕ) (b : ℕ) (first : State) (r : Stretch) (s : State) (k : Stretched p b first r s) where
-  pub goes_on : r.changed ≡ true → r.looks ≡ r.passed
-  goes_on h = k.looks ∙ ap (λ x. r.passed + cond x 0 (look s)) h ∙ omega arith
+  pub goes_on : r.stop ≡ None → r.looks ≡ r.passed
+  goes_on h = k.looks ∙ ap (λ x. r.passed + last_look x (look s)) h ∙ omega arith
 
-  pub looks-over : r.changed ≡ false → r.looks ≡ r.passed + look s
-  looks-over h = k.looks ∙ ap (λ x. r.passed + cond x 0 (look s)) h
+  pub looks-over : (stop : Stop) → r.stop ≡ Some stop → r.looks ≡ r.passed + look s
+  looks-over stop h = k.looks ∙ ap (λ x. r.passed + last_look x (look s)) h
 
 -- what the run answers, where it ends with so many issues left in its budget
 pub ends : (p : List ℕ) (b : ℕ) (first : State) (left looked : ℕ) (s : State) → Carried p b first (b - left) looked s → left ≤ b
-    → (running : Bool) → Over p left s running → (looks : ℕ) → looks ≡ looked + look s
-    → record { answer = given (cond running spent (idle_ending s.machine)); issues = b - left; looks = looks; left = s } ≡ accepted_run p b first
+    → (stop : Stop) → Over p left s stop → (looks : ℕ) → looks ≡ looked + look s
+    → record { answer = given (ending_of stop); issues = b - left; looks = looks; left = s } ≡ accepted_run p b first
 unfolding accepted_run looks_for
-ends p b first left looked s k l running o looks e =
+ends p b first left looked s k l stop o looks e =
     let d : b - (b - left) ≡ left = omega arith in
     let none : issues p (b - (b - left)) s ≡ [] = ap (λ n. issues p n s) d ∙ o.none in
     let f : reached p b first ≡ s = k.state ∙ ap (λ n. reached p n s) d ∙ o.stays in
@@ -280,10 +280,16 @@ ends p b first left looked s k l running o looks e =
     rw (f, g, h, o.ending)
 
 -- no thread is running
-pub over-idle : (p : List ℕ) (left : ℕ) (s : State) → choice s.machine ≡ None → Over p left s false
-over-idle p left s h = record { stays = reached-none p s h left; none = issues-none p s h left; ending = ending-none p s h }
+pub over-idle : (p : List ℕ) (left : ℕ) (s : State) → (stop : Stop) → choice s.machine ≡ None → ending_of stop ≡ idle_ending s.machine → Over p left s stop
+over-idle p left s stop h e =
+    record { stays = reached-none p s h left; none = issues-none p s h left; ending = ending-none p s h ∙ sym e }
+
+-- which goes by no counts
+pub idle-beside : (m : Machine) (turns : List ℕ) → idle_ending (with_turns m turns) ≡ idle_ending m
+unfolding idle_ending
+idle-beside m turns = ap (λ b. cond b stuck stopped) (counts-unseen.waits m turns)
 
 -- a thread is running, and nothing is left of the budget
-pub over-spent : (p : List ℕ) (left : ℕ) (s : State) (t d : ℕ) → choice s.machine ≡ some_chosen t d → left ≡ 0 → Over p left s true
+pub over-spent : (p : List ℕ) (left : ℕ) (s : State) (t d : ℕ) → choice s.machine ≡ some_chosen t d → left ≡ 0 → Over p left s Spent
 unfolding issues
 over-spent p left s t d h e = record { stays = rw e (reached-nothing p s); none = rw e; ending = ending-some p s t d h }

@@ -10,6 +10,7 @@ use Rattle.answer.specs.Answer.{given, refused}
 use Rattle.execution.proofs.Claims.{lengths}
 use Rattle.machine.specs.Machine.{turns_at}
 use Rattle.machine.specs.State.{State, state}
+use Rattle.std.specs.Prelude as P
 use Rattle.std.specs.Prelude.{Some, None}
 use Rattle.machine.specs.Scheduler.{some_chosen, Choice, choice, with_last, some_waits}
 use Rattle.machine.specs.WellFormed.{well_formed}
@@ -18,8 +19,8 @@ use Rattle.interpreter.specs.Choosing.{Issue, if_chosen, issued, issues, reached
 use Rattle.interpreter.specs.Claims.{StaysWellFormed, MaskStays, LengthsStay, WithinBudget, SpendsBudget, Composed, Composes, number_in, AnswersNumber, TakenWellFormed, NoBudget, LooksBounded, LooksWithin, NoBudgetLooks, RefusedLooks}
 use Rattle.answer.specs.Refusal.{refused_or}
 use Rattle.interpreter.specs.Run.{number, run_issues, run_reached, run_answer, run_looks}
-use Rattle.interpreter.specs.Stretch.{Carried, Stretched}
-use Rattle.interpreter.specs.Types.{Stretch}
+use Rattle.interpreter.specs.Stretch.{Carried, last_look, Stretched}
+use Rattle.interpreter.specs.Types.{Stop, Stretch}
 use Rattle.interpreter.proofs.Issuing.{issued-sound, issued-well-formed, reached-nothing, reached-one-more, reached-none, issues-none, ending-none}
 use Rattle.interpreter.proofs.Looks.{look-bounds, looks-bounds, looks-append}
 use Rattle.interpreter.proofs.Refusals.{run-taken, taken-run}
@@ -133,11 +134,11 @@ carried-within p b first made looked s k =
 
 pub stretched-within : (p : List ℕ) (b : ℕ) (first : State) (r : Stretch) (s : State) → Stretched p b first r s → r.looks ≤ 8 * b + 8
 stretched-within p b first r s k =
-    omega (arith, k.looks, carried-within p b first (b - r.left) r.passed s k.carried, last r.changed)
+    omega (arith, k.looks, carried-within p b first (b - r.left) r.passed s k.carried, last r.stop)
   where
-    last : (changed : Bool) → cond changed 0 (look s) ≤ 8
-    last true = omega arith
-    last false = (look-bounds s).1
+    last : (stop : P.Option Stop) → last_look stop (look s) ≤ 8
+    last None = omega arith
+    last (Some stop) = (look-bounds s).1
 
 -- Two runs.
 

@@ -1,12 +1,12 @@
 -- Issues in a row within a run, and where a run ends: what the parts of the call `run` promise each other.
-use Rattle.std.specs.Prelude.{ℕ, ◌+◌, ◌-◌, ◌*◌, ◌%◌, ◌<◌, ◌≤◌, Bool, true, false, cond, List, [], ◌≡◌, length}
+use Rattle.std.specs.Prelude.{ℕ, ◌+◌, ◌-◌, ◌*◌, ◌%◌, ◌<◌, ◌≤◌, Bool, true, false, List, [], ◌≡◌, length, Option, Some, None}
 use Rattle.answer.specs.Refusal.{program_words, register_words}
 use Rattle.machine.specs.Rounds.{after_rounds}
 use Rattle.machine.specs.Scheduler.{some_chosen, choice, with_last}
 use Rattle.machine.specs.State.{State, state, recounted}
-use Rattle.interpreter.specs.Answer.{spent}
-use Rattle.interpreter.specs.Choosing.{issues, reached, idle_ending, ending_at, look, looks_for}
-use Rattle.interpreter.specs.Types.{Machine, FastIssues, Stretch}
+use Rattle.interpreter.specs.Answer.{ending_of}
+use Rattle.interpreter.specs.Choosing.{issues, reached, ending_at, look, looks_for}
+use Rattle.interpreter.specs.Types.{Machine, Stop, FastIssues, Stretch}
 
 -- a run from `first` with the budget b has come to s, with so many issues made, and so many entries looked at for them
 pub record Carried (p : List ℕ) (b : ℕ) (first : State) (made looked : ℕ) (s : State) : Type 0 where
@@ -66,17 +66,22 @@ Continues p m left passed last registers memory r after stored =
     (b : ℕ) (first : State) (turns : List ℕ) → length turns ≡ 8 → Along p b first m turns left passed last registers memory
     → CameTo p b first m turns r after stored r.deferred
 
--- with so many left in the budget nothing more is issued from s, where a thread is running or not
-pub record Over (p : List ℕ) (left : ℕ) (s : State) (running : Bool) : Type 0 where
+-- with so many left in the budget nothing more is issued from s, where a run ends so
+pub record Over (p : List ℕ) (left : ℕ) (s : State) (stop : Stop) : Type 0 where
   pub stays : reached p left s ≡ s
   pub none : issues p left s ≡ []
-  pub ending : ending_at s ≡ cond running spent (idle_ending s.machine)
+  pub ending : ending_at s ≡ ending_of stop
+
+-- the last look, where the run ends
+abbrev pub last_look : Option Stop → ℕ → ℕ
+last_look None look = 0
+last_look (Some stop) look = look
 
 -- from `first` with the budget b, a stretch r of issues has come to s
 pub record Stretched (p : List ℕ) (b : ℕ) (first : State) (r : Stretch) (s : State) : Type 0 where
   pub carried : Carried p b first (b - r.left) r.passed s
   pub within : r.left ≤ b
-  pub some-made : r.changed ≡ true → r.left < b
-  pub over : r.changed ≡ false → Over p r.left s r.running
+  pub some-made : r.stop ≡ None → r.left < b
+  pub over : (stop : Stop) → r.stop ≡ Some stop → Over p r.left s stop
   -- where nothing more is issued, there was the last look too
-  pub looks : r.looks ≡ r.passed + cond r.changed 0 (look s)
+  pub looks : r.looks ≡ r.passed + last_look r.stop (look s)

@@ -3,7 +3,7 @@ ghost use Rattle.std.specs.Prelude.{◌+◌, ◌*◌, ◌^◌, ◌≤◌, ◌<�
 ghost use Rattle.answer.specs.Refusal.{number_of, program_words, register_words};
 ghost use Rattle.machine.specs.Rounds.{after_rounds};
 ghost use Rattle.machine.specs.State.{state, recounted};
-ghost use Rattle.interpreter.specs.Answer.{spent, ending_of};
+ghost use Rattle.interpreter.specs.Answer.{ending_of};
 ghost use Rattle.interpreter.specs.Choosing.{idle_ending};
 ghost use Rattle.interpreter.specs.Refusal.{record_number, run_number};
 ghost use Rattle.interpreter.specs.Run.{run_outcome, outcome, accepted_run, run};
@@ -37,28 +37,21 @@ fn run_verdict(words: usize, regs: usize, bytes: usize, machine: Machine) -> Res
     record_verdict(machine)
 }
 
-// What a run hands back where nothing more is issued: whether a thread is running, and whether one waits, say how it ended.
+// How a run ends where no thread is running: whether one waits.
 #[tactic(auto, unfolding(crate::specs::Choosing::idle_ending))]
-fn ended(machine: Machine, running: bool, made: u32, looks: u64) -> Run
-    ensures { (ending_of result.stop ≡ cond running spent (idle_ending machine)) × (result.issues ≡ made) × (result.looks ≡ looks) × (result.machine ≡ machine) }
+fn idle_stop(machine: Machine) -> Stop
+    ensures { ending_of result ≡ idle_ending machine }
 {
-    let stop = if running {
-        Stop::Spent
-    } else if some_waits(machine) {
+    if some_waits(machine) {
         Stop::Stuck
     } else {
         Stop::Stopped
-    };
-    Run {
-        stop,
-        issues: made,
-        looks,
-        machine,
     }
 }
 
 // Issues of the fast path in a row: the thread issued last, how many issues are left in the budget, how many entries "last" has passed, and
-// whether the last of them is deferred: chosen and counted, and still to be made, by the slow path.
+// whether the last of them is deferred: chosen and counted, and still to be made, by the slow path. A flag beside them: all three are there in
+// both cases, and an enum that holds them twice is no plainer.
 #[derive(Clone, Copy)]
 pub struct FastIssues {
     pub last: usize,
@@ -149,16 +142,15 @@ fn make_fast_issues(
 }
 
 // Issues in a row: the record that they reach, but for its counts of turns, how many issues are left in the budget, how many entries
-// "last" has passed, how many were looked at, whether the last of them changed a status, and, where it did not and nothing more is
-// issued, whether a thread is running: the look that tells so counts too.
+// "last" has passed, how many were looked at, and how the run ends, if nothing more is issued: the look that tells so counts too. It does
+// not end where the last issue changed a status.
 #[derive(Clone, Copy)]
 pub struct Stretch {
     pub machine: Machine,
     pub left: u32,
     pub passed: u64,
     pub looks: u64,
-    pub changed: bool,
-    pub running: bool,
+    pub stop: Option<Stop>,
 }
 
 // Issues up to the first that changes a status. Nothing is counted for an issue: every round of eight entries is one turn of each running
@@ -193,16 +185,14 @@ fn make_stretch(
                     left,
                     passed,
                     looks: passed + 8,
-                    changed: false,
-                    running: false,
+                    stop: Some(idle_stop(at)),
                 },
                 Some(next) => Stretch {
                     machine: at,
                     left,
                     passed,
                     looks: passed + next.distance as u64,
-                    changed: false,
-                    running: true,
+                    stop: Some(Stop::Spent),
                 },
             };
         }
@@ -215,8 +205,7 @@ fn make_stretch(
                 left,
                 passed,
                 looks: passed,
-                changed: true,
-                running: true,
+                stop: None,
             };
         }
     }
@@ -246,13 +235,13 @@ fn make_issues(
         machine = stretch.machine;
         left = stretch.left;
         looks += stretch.looks;
-        if !stretch.changed {
-            return ended(
-                with_turns(machine, turns),
-                stretch.running,
-                budget - left,
+        if let Some(stop) = stretch.stop {
+            return Run {
+                stop,
+                issues: budget - left,
                 looks,
-            );
+                machine: with_turns(machine, turns),
+            };
         }
     }
 }

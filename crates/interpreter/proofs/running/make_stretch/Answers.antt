@@ -2,7 +2,7 @@
 -- nothing more is issued.
 use Prim.Native.Nat.{◌+◌, ◌-◌, ◌%◌}
 use mathlib.Core.Bool.{true, false}
-use mathlib.Core.Path.{◌≡◌, refl, sym, ap, ◌∙◌}
+use mathlib.Core.Path.{◌≡◌, refl, sym, ap, subst, ◌∙◌}
 use native.Mathlib.Omega.{arith}
 use borrow.Author.Tests.{not-true, not-false}
 use lib.ListN.{length}
@@ -11,8 +11,10 @@ use Rattle.std.specs.Prelude.{Some, None}
 use Rattle.machine.specs.Scheduler.{with_last}
 use Rattle.machine.specs.State.{state, recounted}
 use Rattle.machine.proofs.Claims.{chooses, turned, rounds-counted}
-use Rattle.machine.proofs.Tests.{never}
-use Rattle.interpreter.proofs.Issuing.{chosen-beside, look_none, look-some, carried-start, issue-untouched, issue-last, awaited-made, awaited-on, awaited-some, over-idle, over-spent}
+use Rattle.interpreter.specs.Answer.{ending_of}
+use Rattle.interpreter.specs.Stretch.{Over}
+use Rattle.interpreter.specs.Types.{Spent}
+use Rattle.interpreter.proofs.Issuing.{chosen-beside, look_none, look-some, carried-start, issue-untouched, issue-last, awaited-made, awaited-on, awaited-some, over-idle, idle-beside, over-spent}
 use Rattle.interpreter.proofs.Runs.{carried-within}
 use Rattle.interpreter.proofs.running.make_stretch.Goals as goal
 
@@ -53,8 +55,11 @@ returns-in-None c =
       record {
         carried = k.0.carried;
         within = k.0.within;
-        some-made = λ e. never e refl;
-        over = λ e. over-idle _ _ (recounted s counts) none;
+        some-made = λ e. cc;
+        over =
+            λ stop e.
+            let f : c.idle_stop.result ≡ stop = cc in
+            over-idle _ _ (recounted s counts) stop none (sym (ap ending_of f) ∙ rw w at c.idle_stop.ensures ∙ sym (idle-beside at counts));
         looks = ap (λ n. m.result.passed + n) (sym (look_none c.args.program.now (recounted s counts) none));
       },
       m.ensures.0,
@@ -77,8 +82,12 @@ returns-in-Some c =
       record {
         carried = k.0.carried;
         within = k.0.within;
-        some-made = λ e. never e refl;
-        over = λ e. over-spent _ _ (recounted s counts) c.in-Some.next.thread c.in-Some.next.distance some (k.1 c.in-Some.next.thread c.in-Some.next.distance h);
+        some-made = λ e. cc;
+        over =
+            λ stop e.
+            let f : Spent ≡ stop = cc in
+            let o = over-spent _ _ (recounted s counts) c.in-Some.next.thread c.in-Some.next.distance some (k.1 c.in-Some.next.thread c.in-Some.next.distance h) in
+            subst (Over c.args.program.now m.result.left (recounted s counts)) f o;
         looks = ap (λ n. m.result.passed + n) (sym (look-some c.args.program.now (recounted s counts) c.in-Some.next.thread c.in-Some.next.distance some));
       },
       m.ensures.0,
@@ -124,7 +133,7 @@ returns-then-issued c =
             regs c.requires.2 m.result.left m.result.passed m.result.last k _ i;
         within = omega (arith, k.along.within);
         some-made = λ e. omega (arith, k.along.within);
-        over = λ e. never refl e;
+        over = λ stop e. cc;
         looks = omega arith;
       },
       rw (issue-last c.args.program.now (state (with_last c.args.machine m.result.last) m.new.registers m.new.memory) _ m.result.last _ c.requires.0 regs m.ensures.0 i) m.ensures.0,
