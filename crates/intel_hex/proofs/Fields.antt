@@ -11,7 +11,7 @@ use lib.ListN.{length, get_or, take, drop}
 use lib.Seq.{length-take-le, take_all}
 use Rattle.intel_hex.specs.Digits.{pair, pairs, total}
 use Rattle.intel_hex.specs.Record.{no_record, data_record, upper_record, end_record, typed, fields_of, bytes_record, colon_record, record_of, without_cr}
-use Rattle.intel_hex.specs.Scan.{heading, heading_at, digested, FieldsRead}
+use Rattle.intel_hex.specs.Scan.{heading, heading_at}
 use Rattle.intel_hex.specs.Types.{Heading, Data, Base, End}
 use Rattle.std.specs.Prelude.{Some, None}
 use Rattle.std.specs.Prelude as R
@@ -105,21 +105,6 @@ few digits h = go (pairs digits) refl
     go : (p : Option (List ℕ)) → pairs digits ≡ p → None ≡ heading (bytes_record p)
     go none q = refl
     go (some bs) q = let l = written-length (written digits bs q) in sym (ap heading (fields-short bs (λ e. omega arith)))
-
--- what was read of digits with a sum, and of those without
-pub read : (digits : List ℕ) (s : ℕ) (h : R.Option Heading) → digested 0 (pairs digits) ≡ Some s → FieldsRead digits s h → h ≡ heading (bytes_record (pairs digits))
-read digits s h e f = go (pairs digits) refl e
-  where
-    go : (p : Option (List ℕ)) → pairs digits ≡ p → digested 0 p ≡ Some s → h ≡ heading (bytes_record p)
-    go none q e = let z : ◌≡◌ {A = ℕ} 0 1 = cc in absurd (omega arith)
-    go (some bs) q e = let g : (0 + total bs) % 256 ≡ s = cc in f bs q (omega arith)
-
-pub unread : (digits : List ℕ) → digested 0 (pairs digits) ≡ None → None ≡ heading (bytes_record (pairs digits))
-unread digits e = go (pairs digits) e
-  where
-    go : (p : Option (List ℕ)) → digested 0 p ≡ None → None ≡ heading (bytes_record p)
-    go none e = refl
-    go (some bs) e = let z : ◌≡◌ {A = ℕ} 0 1 = cc in absurd (omega arith)
 
 -- a line's text: what begins with a colon, and any other
 pub no-colon : (line text : List ℕ) → text ≡ without_cr line → (get_or text 0 0 ≡ 58 → ⊥) → None ≡ heading (record_of line)

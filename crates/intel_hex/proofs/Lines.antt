@@ -7,7 +7,7 @@ use native.Mathlib.Omega.{arith}
 use lib.Dec.{eqb, lit≤}
 use lib.Seq.{take_all}
 use lib.ListN.{length, take, drop, length-drop}
-use borrow.Author.Tests.{ltb-false}
+use borrow.Author.Tests.{ltb-true, ltb-false}
 use Rattle.std.specs.Prelude.{◌==◌, nat_lt, Some, None, position}
 use Rattle.std.specs.List.{position_or_len}
 use Rattle.intel_hex.specs.Record.{without_cr, line, rest, lines_from, lines}
@@ -65,12 +65,23 @@ lf-some t n e = go (nat_lt (position_or_len (λ c. c == 10) t) (length t)) e
     go true e = let f : n ≡ position_or_len (λ c. c == 10) t = cc in f ∙ lf-length t
     go false e = let z : ◌≡◌ {A = ℕ} 0 1 = cc in absurd (omega arith)
 
+pub lf-below : (t : List ℕ) (n : ℕ) → Some n ≡ position (λ c. c == 10) t → n < length t
+lf-below t n e = go (nat_lt (position_or_len (λ c. c == 10) t) (length t)) refl e
+  where
+    go : (b : Bool) → nat_lt (position_or_len (λ c. c == 10) t) (length t) ≡ b → Some n ≡ cond b (Some (position_or_len (λ c. c == 10) t)) None → n < length t
+    go true h e = let f : n ≡ position_or_len (λ c. c == 10) t = cc in omega (arith, ltb-true _ _ h)
+    go false h e = let z : ◌≡◌ {A = ℕ} 0 1 = cc in absurd (omega arith)
+
 pub lf-none : (t : List ℕ) → None ≡ position (λ c. c == 10) t → line_length t ≡ length t
 lf-none t e = go (nat_lt (position_or_len (λ c. c == 10) t) (length t)) refl e
   where
     go : (b : Bool) → nat_lt (position_or_len (λ c. c == 10) t) (length t) ≡ b → None ≡ cond b (Some (position_or_len (λ c. c == 10) t)) None → line_length t ≡ length t
     go true h e = let z : ◌≡◌ {A = ℕ} 0 1 = cc in absurd (omega arith)
     go false h e = omega (arith, lf-length t, lf-within t, ltb-false _ _ h)
+
+pub nil : (t : List ℕ) → length t ≡ 0 → t ≡ []
+nil [] h = refl
+nil (c ∷ t) h = absurd (omega arith)
 
 -- what is left of a text
 pub rest_of : (t : List ℕ) (at : ℕ) → take (length t - at) (drop at t) ≡ drop at t

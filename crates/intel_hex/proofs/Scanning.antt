@@ -6,8 +6,8 @@ use mathlib.Core.Path.{◌≡◌, refl, sym, ap, ◌∙◌}
 use native.Mathlib.Omega.{arith}
 use borrow.Author.Tests.{ltb-false, ltb-true}
 use lib.Dec.{eqb, ltb}
-use lib.ListN.{length, take, drop, replicate, length-append, length-replicate, length-drop, drop_of_length-le}
-use lib.Seq.{drop-drop, length-take-le}
+use lib.ListN.{length, take, drop, replicate, length-append, length-replicate, length-drop}
+use lib.Seq.{length-take-le}
 use Rattle.intel_hex.specs.File.{Progress, reading, stopped, placed, misplaced, taken, steps, start, finish, image_of}
 use Rattle.intel_hex.specs.Record.{Line, line, lines_from, lines, Record, no_record, data_record, upper_record, end_record, record_of, without_cr}
 use Rattle.intel_hex.specs.Scan.{heading, line_length, cursor, advanced, Judged, Bytes, Refused, judged}
@@ -16,7 +16,7 @@ use Rattle.std.specs.Prelude.{Ok, Err}
 use Rattle.answer.specs.Refusal.{row_of}
 use Rattle.answer.specs.declared.refusal.Refusal.{Refusal}
 use Rattle.answer.specs.declared.refusal.Refusal.TheVariants.{HexRecord, HexOrder}
-use Rattle.intel_hex.proofs.Lines.{cut, uncut}
+use Rattle.intel_hex.proofs.Lines.{cut, uncut, nil}
 
 -- a refusal stays
 pub stays : (k n : ℕ) (ls : List Line) → steps (stopped k n) ls ≡ stopped k n
@@ -92,91 +92,84 @@ blank-bad [] h = refl
 blank-bad (c ∷ t) h = absurd (omega arith)
 
 -- one line more
-pub line_step : (text : List ℕ) (at e n u : ℕ) (bs : List ℕ) → e < length text → e ≡ at + line_length (drop at text) →
-    steps (reading n u bs false) (lines (drop at text)) ≡ steps (taken n u bs (record_of (take (e - at) (drop at text)))) (lines (drop (e + 1) text))
+pub line_step : (t : List ℕ) (e n u : ℕ) (bs : List ℕ) → e < length t → e ≡ line_length t →
+    steps (reading n u bs false) (lines t) ≡ steps (taken n u bs (record_of (take e t))) (lines (drop (e + 1) t))
 unfolding steps
-line_step text at e n u bs more l =
-    let d = length-drop at text in
-    let z : line_length (drop at text) ≡ e - at = omega arith in
-    let y : at + suc (e - at) ≡ e + 1 = omega arith in
-    ap (steps (reading n u bs false)) (cut [] (drop at text) (omega arith)) ∙ rw (z, drop-drop (suc (e - at)) at text, y)
+line_step t e n u bs more l =
+    let y : suc (line_length t) ≡ e + 1 = omega arith in
+    ap (steps (reading n u bs false)) (cut [] t (omega arith)) ∙ rw (y, ← l)
 
--- a file judged up to a place
-pub record Judging (text : List ℕ) (c : Cursor) (n at : ℕ) : Type 0 where
+-- a file judged as far as a rest of it
+pub record Judging (text : List ℕ) (c : Cursor) (n : ℕ) (rest : List ℕ) : Type 0 where
   pub bytes : List ℕ
-  pub within : at ≤ length text
-  pub few : 2 * n ≤ at + 2
+  pub few : 2 * n + length rest ≤ length text + 2
   pub top : c.top ≡ length bytes
-  pub rest : steps start (lines text) ≡ steps (reading n c.upper bytes c.ended) (lines (drop at text))
+  pub read : steps start (lines text) ≡ steps (reading n c.upper bytes c.ended) (lines rest)
 
-pub begin : (text : List ℕ) → Judging text (cursor 0 0 false) 1 0
-begin text = record { bytes = []; within = omega arith; few = omega arith; top = refl; rest = refl }
+pub begin : (text : List ℕ) → Judging text (cursor 0 0 false) 1 text
+begin text = record { bytes = []; few = omega arith; top = refl; read = refl }
 
-module _ (text : List ℕ) (c : Cursor) (n at : ℕ) (j : Judging text c n at) where
-  pub judged-behind : at < length text → c.ended ≡ true → Refused 17 n ≡ judged (image_of text)
+module _ (text : List ℕ) (c : Cursor) (n : ℕ) (rest : List ℕ) (j : Judging text c n rest) where
+  pub judged-behind : 0 < length rest → c.ended ≡ true → Refused 17 n ≡ judged (image_of text)
   unfolding image_of
   judged-behind h e =
-      let d = length-drop at text in
-      let r : steps start (lines text) ≡ stopped 17 n = j.rest ∙ rw e (behind-end n c.upper j.bytes [] (drop at text) (omega arith)) in
+      let r : steps start (lines text) ≡ stopped 17 n = j.read ∙ rw e (behind-end n c.upper j.bytes [] rest (omega arith)) in
       sym (ap (λ (p : Progress). judged (finish p)) r)
 
-  pub judged-unended : at < length text → c.ended ≡ false → at + line_length (drop at text) ≡ length text → Refused 15 n ≡ judged (image_of text)
+  pub judged-unended : 0 < length rest → c.ended ≡ false → line_length rest ≡ length rest → Refused 15 n ≡ judged (image_of text)
   unfolding image_of
   judged-unended h e l =
-      let d = length-drop at text in
-      let r : steps start (lines text) ≡ stopped 15 n = j.rest ∙ rw e (unended n c.upper j.bytes (drop at text) (omega arith) (omega arith)) in
+      let r : steps start (lines text) ≡ stopped 15 n = j.read ∙ rw e (unended n c.upper j.bytes rest h l) in
       sym (ap (λ (p : Progress). judged (finish p)) r)
 
-  pub judged-whole : at ≡ length text → c.ended ≡ true → Bytes c.top ≡ judged (image_of text)
+  pub judged-whole : length rest ≡ 0 → c.ended ≡ true → Bytes c.top ≡ judged (image_of text)
   unfolding image_of steps lines_from
   judged-whole h e =
-      let d : drop at text ≡ [] = drop_of_length-le text {i = at} (omega arith) in
-      let r : steps start (lines text) ≡ reading n c.upper j.bytes true = j.rest ∙ rw (e, d) in
+      let d = nil rest h in
+      let r : steps start (lines text) ≡ reading n c.upper j.bytes true = j.read ∙ rw (e, d) in
       sym (ap (λ (p : Progress). judged (finish p)) r ∙ ap {B = Judged} (λ m. Bytes m) (sym j.top))
 
-  pub judged-endless : at ≡ length text → c.ended ≡ false → Refused 17 n ≡ judged (image_of text)
+  pub judged-endless : length rest ≡ 0 → c.ended ≡ false → Refused 17 n ≡ judged (image_of text)
   unfolding image_of steps lines_from
   judged-endless h e =
-      let d : drop at text ≡ [] = drop_of_length-le text {i = at} (omega arith) in
-      let r : steps start (lines text) ≡ reading n c.upper j.bytes false = j.rest ∙ rw (e, d) in
+      let d = nil rest h in
+      let r : steps start (lines text) ≡ reading n c.upper j.bytes false = j.read ∙ rw (e, d) in
       sym (ap (λ (p : Progress). judged (finish p)) r)
 
-  module _ (e : ℕ) (more : e < length text) (fresh : c.ended ≡ false) (l : e ≡ at + line_length (drop at text)) where
+  module _ (e : ℕ) (more : e < length rest) (fresh : c.ended ≡ false) (l : e ≡ line_length rest) where
     -- one line more
-    stepped : steps start (lines text) ≡ steps (taken n c.upper j.bytes (record_of (take (e - at) (drop at text)))) (lines (drop (e + 1) text))
+    stepped : steps start (lines text) ≡ steps (taken n c.upper j.bytes (record_of (take e rest))) (lines (drop (e + 1) rest))
     unfolding steps
-    stepped =
-        j.rest ∙ rw fresh (line_step text at e n c.upper j.bytes more l)
+    stepped = j.read ∙ rw fresh (line_step rest e n c.upper j.bytes more l)
 
-    kept : advanced (cursor c.upper (length j.bytes) false) (heading (record_of (take (e - at) (drop at text)))) ≡ advanced c (heading (record_of (take (e - at) (drop at text))))
-    kept = ap (λ (d : Cursor). advanced d (heading (record_of (take (e - at) (drop at text))))) (sym (ap (λ (m : ℕ). cursor c.upper m c.ended) j.top ∙ ap (λ (b : Bool). cursor c.upper (length j.bytes) b) fresh))
+    kept : advanced (cursor c.upper (length j.bytes) false) (heading (record_of (take e rest))) ≡ advanced c (heading (record_of (take e rest)))
+    kept = ap (λ (d : Cursor). advanced d (heading (record_of (take e rest)))) (sym (ap (λ (m : ℕ). cursor c.upper m c.ended) j.top ∙ ap (λ (b : Bool). cursor c.upper (length j.bytes) b) fresh))
 
-    pub judged-stops : (k : Refusal) → advanced c (heading (record_of (take (e - at) (drop at text)))) ≡ Err k → Refused (row_of k) n ≡ judged (image_of text)
+    pub judged-stops : (k : Refusal) → advanced c (heading (record_of (take e rest))) ≡ Err k → Refused (row_of k) n ≡ judged (image_of text)
     unfolding image_of
     judged-stops k s =
-        sym (ap (λ (p : Progress). judged (finish p)) (stepped ∙ ap (λ (p : Progress). steps p (lines (drop (e + 1) text))) (record-stops n c.upper k j.bytes (record_of (take (e - at) (drop at text))) (kept ∙ s)) ∙ stays (row_of k) n _))
+        sym (ap (λ (p : Progress). judged (finish p)) (stepped ∙ ap (λ (p : Progress). steps p (lines (drop (e + 1) rest))) (record-stops n c.upper k j.bytes (record_of (take e rest)) (kept ∙ s)) ∙ stays (row_of k) n _))
 
     -- a record is not blank
-    passed : (next : Cursor) → advanced c (heading (record_of (take (e - at) (drop at text)))) ≡ Ok next → at < e
+    passed : (next : Cursor) → advanced c (heading (record_of (take e rest))) ≡ Ok next → 0 < e
     unfolding advanced
-    passed next s = go (ltb at e) refl
+    passed next s = go (ltb 0 e) refl
       where
-        go : (b : Bool) → ltb at e ≡ b → at < e
-        go true h = ltb-true at e h
+        go : (b : Bool) → ltb 0 e ≡ b → 0 < e
+        go true h = ltb-true 0 e h
         go false h =
-            let d = length-take-le (e - at) (drop at text) (omega (arith, length-drop at text)) in
-            let x = ap (λ (r : Record). advanced c (heading r)) (blank-bad (take (e - at) (drop at text)) (omega (arith, ltb-false at e h))) in
+            let d = length-take-le e rest (omega arith) in
+            let x = ap (λ (r : Record). advanced c (heading r)) (blank-bad (take e rest) (omega (arith, ltb-false 0 e h))) in
             let z : ◌≡◌ {A = ℕ} 0 1 = cc in
             absurd (omega arith)
 
-    pub judging : (next : Cursor) → advanced c (heading (record_of (take (e - at) (drop at text)))) ≡ Ok next → Judging text next (n + 1) (e + 1)
+    pub judging : (next : Cursor) → advanced c (heading (record_of (take e rest))) ≡ Ok next → Judging text next (n + 1) (drop (e + 1) rest)
     unfolding advanced
     judging next s =
-        let g = record-goes n c.upper j.bytes (record_of (take (e - at) (drop at text))) next (kept ∙ s) in
+        let g = record-goes n c.upper j.bytes (record_of (take e rest)) next (kept ∙ s) in
         record {
           bytes = g.bytes;
-          within = omega arith;
-          few = omega (arith, j.few, passed next s);
+          few = omega (arith, j.few, passed next s, length-drop (e + 1) rest);
           top = g.top;
-          rest = stepped ∙ ap (λ (p : Progress). steps p (lines (drop (e + 1) text))) g.read;
+          read = stepped ∙ ap (λ (p : Progress). steps p (lines (drop (e + 1) rest))) g.read;
         }

@@ -7,22 +7,11 @@ ghost use Rattle.intel_hex.specs.Scan.{heading, line_length, advanced, judgement
 use crate::record::{Heading, heading_of};
 use answer::{Refusal, RefusedLine};
 
-// Where the first LF of a text is.
-fn line_feed(text: &[u8]) -> Option<usize>
+// Where the first line of a text ends: at its first LF.
+pub fn line_feed(text: &[u8]) -> Option<usize>
     ensures { result ≡ position (λ c. c == 10) text.now }
 {
     text.iter().position(|&c| c == b'\n')
-}
-
-// Where the line that begins at a place ends: at its LF, or at the text's end.
-pub fn line_end(text: &[u8], at: usize) -> usize
-    requires { at ≤ length text.now }
-    ensures { (result ≡ at + line_length (drop at text.now)) × (at ≤ result) × (result ≤ length text.now) }
-{
-    match line_feed(&text[at..]) {
-        Some(length) => at + length,
-        None => text.len(),
-    }
 }
 
 // The upper half of addresses, the end of the last data record, and whether the end record was there.
@@ -70,27 +59,26 @@ pub fn judge(text: &[u8]) -> Result<usize, RefusedLine>
         ended: false,
     };
     let mut line = 1;
-    let mut at = 0;
-    while at < text.len() {
+    let mut rest = text;
+    while !rest.is_empty() {
         if c.ended {
             return Err(RefusedLine {
                 refusal: Refusal::HexEnd,
                 line,
             });
         }
-        let e = line_end(text, at);
-        if e == text.len() {
+        let Some(end) = line_feed(rest) else {
             return Err(RefusedLine {
                 refusal: Refusal::HexRecord,
                 line,
             });
-        }
-        c = match advance(c, &text[at..e]) {
+        };
+        c = match advance(c, &rest[..end]) {
             Ok(next) => next,
             Err(refusal) => return Err(RefusedLine { refusal, line }),
         };
         line += 1;
-        at = e + 1;
+        rest = &rest[end + 1..];
     }
     if c.ended {
         return Ok(c.top);

@@ -4,7 +4,7 @@ ghost use Rattle.intel_hex.specs.Storing.{put_byte, store_all, pair_bytes, words
 
 use crate::place::POWERS;
 use crate::record::{Heading, byte_at, heading_of};
-use crate::scan::line_end;
+use crate::scan::line_feed;
 
 // Puts a byte at an address.
 fn put_at(words: &mut [u32], a: usize, b: u32)
@@ -69,14 +69,13 @@ pub fn store(text: &[u8], words: &mut [u32])
     ensures { Stores text.now words.old words.new }
 {
     let mut p = Place { upper: 0, top: 0 };
-    let mut at = 0;
-    while at < text.len() {
-        let e = line_end(text, at);
-        let line = &text[at..e];
+    let mut rest = text;
+    while let Some(end) = line_feed(rest) {
+        let line = &rest[..end];
         p = match heading_of(line) {
             Some(h) => store_record(line, h, p, words),
             None => p,
         };
-        at = e + 1;
+        rest = &rest[end..][1..];
     }
 }

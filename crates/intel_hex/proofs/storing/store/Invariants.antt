@@ -1,11 +1,10 @@
 -- `store` meets its contract: what is stored, and the lines that are left, are the whole file.
-use Prim.Native.Nat.{◌-◌}
-use lib.ListN.{length}
+use Rattle.std.proofs.Common.{length}
 use Rattle.intel_hex.proofs.Passing.{Storing}
 use Rattle.intel_hex.proofs.storing.store.Given as goal
 
-abbrev pub invariant-loop-at : goal.invariant-loop-at
-invariant-loop-at l = Storing l.text l.initial.words l.p l.words l.at
+abbrev pub invariant-loop-end : goal.invariant-loop-end
+invariant-loop-end l = Storing l.text l.initial.words l.p l.words l.rest
 
-abbrev pub decreases-loop-at : goal.decreases-loop-at
-decreases-loop-at l = length l.text - l.at
+abbrev pub decreases-loop-end : goal.decreases-loop-end
+decreases-loop-end l = length l.rest
