@@ -44,8 +44,8 @@ pub fn word_at(image: &[u8], at: usize) -> u32
     u32::from_le_bytes([image[at], image[at + 1], image[at + 2], image[at + 3]])
 }
 
-// Four words taken from a place of an image, and stored from a place on: all are read before one is stored. Place by place: by copy_from_slice
-// they would not move as one, and the longest image be converted in 79,000 instructions in place of 60,000.
+// Four words taken from a place of an image, and stored from a place on: all are read before one is stored. Place by place: by
+// copy_from_slice they would not move as one, and the longest image be converted in 79,000 instructions in place of 60,000.
 fn take_four(image: &[u8], at: usize, registers: &mut [u32], from: usize)
     requires { (at + 16 ≤ length image.now) × (from + 4 ≤ length registers.old) }
     ensures { Grown registers.old registers.new from (from + 4) (words_of 4 (drop at image.now)) }
@@ -70,8 +70,8 @@ pub fn take_words(image: &[u8], at: usize, n: usize, registers: &mut [u32], from
     }
 }
 
-// n times sixteen bytes taken from a place, and stored from a place on. They have a copy of their own, so that they move as one: between two
-// slices they would first be compared for overlap (docs/SPEED.md).
+// n times sixteen bytes taken from a place, and stored from a place on. They have a copy of their own, so that they move as one: between
+// two slices they would first be compared for overlap (docs/SPEED.md).
 pub fn copy_sixteens(source: &[u8], from: usize, n: usize, target: &mut [u8], at: usize)
     requires { (from + 16 * n ≤ length source.now) × (at + 16 * n ≤ length target.old) }
     ensures { Grown target.old target.new at (at + 16 * n) (take (16 * n) (drop from source.now)) }
