@@ -13,8 +13,8 @@ pub struct Failed {
     pub size: usize,
 }
 
-// Reads until the buffer is full or the stream ends, and answers how many bytes are at its start; `failure` is what a complaint says can't be
-// done.
+// Reads until the buffer is full or the stream ends, and answers how many bytes are at its start; `failure` is what a complaint says
+// can't be done.
 pub fn read_stream<R: Read>(
     rt: &impl Eprint,
     stream: &mut R,
@@ -24,6 +24,7 @@ pub fn read_stream<R: Read>(
     ensures { IsPrefixLen (size_of result) buf.new }
 {
     let mut size = 0;
+    // No `for`: a turn takes as many bytes as the stream gives.
     while size < buf.len() {
         match stream.read(&mut buf[size..]) {
             Ok(0) => break,

@@ -3,7 +3,8 @@ ghost use Rattle.std.specs.Prelude.{◌≡◌, ◌≤◌};
 ghost use Rattle.intel_hex.specs.Digits.{value, pairs};
 ghost use Rattle.intel_hex.specs.Scan.{digested};
 
-// What a digit counts; 16 for any other byte. It has one branch, since digits and letters come in no order that could be foretold.
+// What a digit counts; 16 for any other byte, as the definition counts it: the bytes of digits that were summed are read with no test. It
+// has one branch, since digits and letters come in no order that could be foretold.
 pub fn value_of(c: u8) -> u8
     ensures { (result ≡ value c) × (result ≤ 16) }
 {

@@ -1,4 +1,5 @@
-// A lent buffer, written from a place on.
+// A lent buffer, written from a place on. The buffer and the place are no struct: each function that puts a line would have to promise,
+// in a clause of its own, that such a struct still holds the same reference.
 ghost use Rattle.std.specs.Prelude.{◌≡◌};
 ghost use Rattle.text.specs.Buffer.{wrote, puts};
 
