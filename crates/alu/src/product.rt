@@ -23,6 +23,7 @@ fn excess(x: u32, y: u32) -> u32
     if 2147483648 <= x { y } else { 0 }
 }
 
+// By the unsigned half: a product of two i64 would be cut back to a word by hand.
 pub fn mulhi(x: u32, y: u32) -> u32
     ensures { result ≡ binary Mulhi x y }
 {

@@ -1,19 +1,12 @@
--- Which patterns are a NaN's, and which values a NaN, as the code tests them; what a NaN result is.
+-- What a NaN result is.
 use mathlib.Core.Path.{◌≡◌, refl, sym, ◌∙◌, ap}
-use mathlib.Core.Bool.{true}
 use lib.Dec.{T}
 use lib.Ieee as Ieee
-use lib.Ieee.{Float, nan, inf, fin, binary32}
+use lib.Ieee.{Float, nan, binary32}
 use lib.Ieee.Bits.{of_bits-to_bits}
 use lib.Ieee.Fits.{add-fits, sub-fits, mul-fits, div-fits}
 use Rattle.float.specs.Floats.{value, pattern}
 use Rattle.float.specs.Claims.{NanPattern, AnyNanResult}
-
-is-nan : (x : Float) → Ieee.is_nan x ≡ true → x ≡ nan
-unfolding Ieee.is_nan
-is-nan nan e = refl
-is-nan (inf s) e = cc
-is-nan (fin s m k) e = cc
 
 pub nan_pattern : NanPattern
 unfolding Ieee.to_bits

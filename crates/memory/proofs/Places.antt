@@ -7,29 +7,11 @@ use native.Mathlib.Omega.{arith}
 use lib.Dec.{eqb, leb}
 use lib.ListN.{length}
 use borrow.Author.Tests.{leb-true}
-use Rattle.memory.specs.Types.{LoadOp, Load8, Load16, Load32, Load8u, Load16u, StoreOp, Store8, Store16, Store32}
 use Rattle.answer.specs.Reason.{misaligned, outside-memory}
 use Rattle.memory.specs.Attempt.{Attempt, done, fault}
 use Rattle.twos_complement.specs.Word.{negative}
 use Rattle.memory.specs.Place.{biased, inside, place}
-use Rattle.memory.specs.Operation.{bytes_loaded, bytes_stored, scalar_place}
-
--- the sizes of scalars
-pub record Size (n : ℕ) : Type 0 where
-  pub some : 0 < n
-  pub few : n ≤ 4
-
-pub loaded-size : (op : LoadOp) → Size (bytes_loaded op)
-loaded-size Load8 = record { some = omega arith; few = omega arith }
-loaded-size Load16 = record { some = omega arith; few = omega arith }
-loaded-size Load32 = record { some = omega arith; few = omega arith }
-loaded-size Load8u = record { some = omega arith; few = omega arith }
-loaded-size Load16u = record { some = omega arith; few = omega arith }
-
-pub stored-size : (op : StoreOp) → Size (bytes_stored op)
-stored-size Store8 = record { some = omega arith; few = omega arith }
-stored-size Store16 = record { some = omega arith; few = omega arith }
-stored-size Store32 = record { some = omega arith; few = omega arith }
+use Rattle.memory.specs.Operation.{scalar_place}
 
 both : (p q : Bool) → p && q ≡ true → (p ≡ true) × (q ≡ true)
 both true q e = (refl, e)

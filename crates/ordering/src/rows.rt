@@ -84,6 +84,7 @@ pub fn order_biased(bias: u32, x: u32, y: u32) -> Ordering
     a.cmp(&b)
 }
 
+// Three tests of the float unit, in the definition's order: `partial_cmp` asks for the patterns' values, which only the float unit has.
 fn order_floats(x: u32, y: u32) -> Option<Ordering>
     ensures { result ≡ order Float x y }
 {
