@@ -60,6 +60,9 @@ pub struct FastIssues {
     pub deferred: bool,
 }
 
+// Program, registers and memory go one by one from here down, as `run` is given them and both paths take them: a struct of them would be
+// taken apart again at each call, which is no plainer.
+
 // Issues of one thread in a row, by the fast path: one where others may be running too, else up to the first whose word is left to the slow
 // path. That one is made by the caller, so that the compiler has no call and no record in this loop.
 fn make_thread_issues(

@@ -69,6 +69,7 @@ fn well_formed_within(machine: Machine, limits: Limits) -> bool
     if machine.enabled == 0 || 7 < machine.last {
         return false;
     }
+    // By number: an entry is judged together with the others of its barrier, and over `all` of the numbers the proof did not close.
     for thread in 0..8 {
         if !entry_in_order(machine, thread, limits) {
             return false;
