@@ -13,7 +13,9 @@ use image_layout::{Form, Kind, Shape, first_body, record_size, row_of};
 use machine::Machine;
 use thread_entry::{Status, Thread};
 
-// The entry whose numbers stand at a place. The old form has no count of turns, which then is 0.
+// The entry whose numbers stand at a place. The old form has no count of turns, which then is 0. It stands apart: inlined into the loop
+// below, it would stand eight times in the code.
+#[inline(never)]
 fn entry_at(form: Form, image: &[u8], at: usize) -> Result<Thread, Refusal>
     requires { at + (thread_row form).size ≤ length image.now }
     ensures { answered result ≡ thread_of (fields_in (take (thread_row form).size (drop at image.now))) }
