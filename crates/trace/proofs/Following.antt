@@ -1,21 +1,22 @@
 -- The loop of a traced run follows the plain run, issue by issue.
 use Rattle.std.proofs.Common.{◌≡◌, ℕ, ◌+◌, ◌-◌, ◌^◌, ◌<◌, ◌≤◌, Bool, true, false, cond, ◌&&◌, ltb, List, [], ◌∷◌, ◌++◌, length, set, sym, refl, ap, ◌∙◌, arith, length-append, ltb-false, ltb-true}
-use mathlib.Core.Option.{none}
+use mathlib.Core.Option.{Option, none, some}
+use Rattle.std.specs.Prelude.{Result, Ok, Err, IsOk}
 use Rattle.answer.specs.Answer.{given}
 use Rattle.interpreter.proofs.Claims.{answers_number, joins, within-budget}
-use Rattle.interpreter.specs.Answer.{spent, answered}
+use Rattle.interpreter.specs.Answer.{ending_of, spent}
 use Rattle.interpreter.specs.Choosing.{Issue, issued}
 use Rattle.interpreter.specs.Claims.{number_in}
-use Rattle.interpreter.specs.Run.{Outcome, outcome, number, run_issues, run_reached, run_answer, run}
-use Rattle.machine.specs.Scheduler.{choice, after_choice, choose}
+use Rattle.interpreter.specs.Run.{Outcome, run_outcome, outcome, number, run_issues, run_reached, run_answer, run}
+use Rattle.machine.specs.Scheduler.{some_chosen, choice, after_choice, choose}
 use Rattle.machine.specs.State.{State, state}
 use Rattle.trace.specs.Joining.{continued_run}
 use Rattle.trace.specs.Rows.{row_of, rows_of, onto}
-use Rattle.trace.specs.Traced.{least, traced, run_traced, is_spent}
+use Rattle.trace.specs.Traced.{TracedRun, least, traced_run, traced, traced_page, run_traced, is_spent}
 use Rattle.trace.specs.Turn.{next_thread, row_after, Advanced}
-use Rattle.trace.specs.Types.{Row, Run, Step, RunAnswer, Stopped, Stuck, Spent, Refused, Machine, Chosen}
+use Rattle.trace.specs.Types.{Row, Page, Run, Step, Stop, Stopped, Stuck, Spent, Refusal, Machine}
 use Rattle.trace.proofs.Lists.{onto-set, no_rows, one-row, rows_append, rows-length}
-use Rattle.trace.proofs.Rules.{taken-still, joined, one-issue, one-reached, spent-chosen, ended-for-good}
+use Rattle.trace.proofs.Rules.{taken-still, taken-so, not-refused, refused-same, joined, one-issue, one-reached, spent-chosen, ended-for-good}
 
 -- where the loop stands
 pub record Place : Type 0 where
@@ -45,7 +46,7 @@ limited budget lent l = go (ltb (length lent) budget) refl
 
 -- what stays true from turn to turn: so far it is the plain run with a budget of the issues made
 pub record Follows (p : List ℕ) (s : State) (limit : ℕ) (lent : List Row) (x : Place) : Type 0 where
-  pub ran : outcome x.run x.registers x.memory ≡ run p (made x) s
+  pub ran : run_outcome x.run x.registers x.memory ≡ run p (made x) s
   pub within : made x ≤ limit
   pub rows : x.rows ≡ onto (rows_of p (run_issues p (made x) s)) lent
 
@@ -59,7 +60,7 @@ none_made p s = go (run_issues p 0 s) (within-budget p 0 s)
     go (i ∷ is) l = absurd (omega arith)
 
 pub begins : (p : List ℕ) (s : State) (limit : ℕ) (lent : List Row) (r : Run) (registers memory : List ℕ)
-    → outcome r registers memory ≡ run p 0 s → Follows p s limit lent (place r registers memory lent)
+    → run_outcome r registers memory ≡ run p 0 s → Follows p s limit lent (place r registers memory lent)
 unfolding run
 begins p s limit lent r registers memory ran =
     let zero-made : r.issues ≡ 0 = ap (λ (o : Outcome). o.issues) ran ∙ ap length (none_made p s) in
@@ -72,13 +73,12 @@ begins p s limit lent r registers memory ran =
 
 -- A turn.
 
-pub spent-given : (a : RunAnswer) → is_spent a ≡ true → answered a ≡ given spent
+pub spent-given : (a : Stop) → is_spent a ≡ true → given (ending_of a) ≡ given spent
 spent-given Stopped e = absurd (let z : ◌≡◌ {A = ℕ} 0 1 = cc in omega arith)
 spent-given Stuck e = absurd (let z : ◌≡◌ {A = ℕ} 0 1 = cc in omega arith)
 spent-given Spent e = refl
-spent-given (Refused n) e = absurd (let z : ◌≡◌ {A = ℕ} 0 1 = cc in omega arith)
 
-chosen-next : (m : Machine) (t d : ℕ) → choice m ≡ Chosen t d → next_thread m ≡ t
+chosen-next : (m : Machine) (t d : ℕ) → choice m ≡ some_chosen t d → next_thread m ≡ t
 unfolding choose
 chosen-next m t d e = ap (λ c. (after_choice m c).last) e
 
@@ -88,7 +88,7 @@ both true b e = (refl, e)
 both false b e = absurd (let z : ◌≡◌ {A = ℕ} 0 1 = cc in omega arith)
 
 module _ (p : List ℕ) (s : State) (limit : ℕ) (lent : List Row) (x : Place) (bound : Limited limit lent) (f : Follows p s limit lent x)
-    (go : (is_spent x.run.answer && ltb x.run.issues limit) ≡ true) (r : Step) (registers memory : List ℕ)
+    (go : (is_spent x.run.stop && ltb x.run.issues limit) ≡ true) (r : Step) (registers memory : List ℕ)
     (a : Advanced p x.run x.registers x.memory r registers memory) where
   abbrev n : ℕ
   n = made x
@@ -101,15 +101,15 @@ module _ (p : List ℕ) (s : State) (limit : ℕ) (lent : List Row) (x : Place) 
   unfolding run
   at_here = ap (λ (o : Outcome). o.left) f.ran
 
-  goes : (is_spent x.run.answer ≡ true) × (ltb n limit ≡ true)
-  goes = both (is_spent x.run.answer) (ltb n limit) go
+  goes : (is_spent x.run.stop ≡ true) × (ltb n limit ≡ true)
+  goes = both (is_spent x.run.stop) (ltb n limit) go
 
   below : n < limit
   below = ltb-true n limit goes.1
 
   spent-here : run_answer p n s ≡ given spent
   unfolding run
-  spent-here = sym (ap (λ (o : Outcome). o.answer) f.ran) ∙ spent-given x.run.answer goes.0
+  spent-here = sym (ap (λ (o : Outcome). o.answer) f.ran) ∙ spent-given x.run.stop goes.0
 
   taken : number p s ≡ none
   taken = sym (answers_number p n s) ∙ ap number_in spent-here
@@ -117,7 +117,7 @@ module _ (p : List ℕ) (s : State) (limit : ℕ) (lent : List Row) (x : Place) 
   taken_here : number p here ≡ none
   taken_here = ap (number p) at_here ∙ taken-still p n s taken
 
-  chosen : (t : ℕ) × ((d : ℕ) × (choice here.machine ≡ Chosen t d))
+  chosen : (t : ℕ) × ((d : ℕ) × (choice here.machine ≡ some_chosen t d))
   chosen =
       let c = spent-chosen p n s taken spent-here in
       (c.0, (c.1.0, ap (λ (y : State). choice y.machine) at_here ∙ c.1.1))
@@ -125,7 +125,7 @@ module _ (p : List ℕ) (s : State) (limit : ℕ) (lent : List Row) (x : Place) 
   abbrev issue : Issue
   issue = record { before = here; thread = chosen.0 }
 
-  more : run p (n + 1) s ≡ outcome (continued_run x.run a.one) registers memory
+  more : run p (n + 1) s ≡ run_outcome (continued_run x.run a.one) registers memory
   more =
       sym (joined p n 1 s x.run a.one x.registers x.memory registers memory (omega (arith, below, bound.small)) taken
       f.ran (a.ran ∙ ap (run p 1) at_here))
@@ -168,7 +168,7 @@ module _ (p : List ℕ) (s : State) (limit : ℕ) (lent : List Row) (x : Place) 
   follows_on =
       let len : length (rows_of p (run_issues p n s)) ≡ n = rows-length p (run_issues p n s) ∙ so-many in
       record {
-        ran = ap (λ q. outcome q registers memory) a.next ∙ sym more ∙ ap (λ k. run p k s) (sym one-made);
+        ran = ap (λ q. run_outcome q registers memory) a.next ∙ sym more ∙ ap (λ k. run p k s) (sym one-made);
         within = omega (arith, one-made, below);
         rows =
             ap (λ l. set l n r.row) f.rows
@@ -183,13 +183,43 @@ module _ (p : List ℕ) (s : State) (limit : ℕ) (lent : List Row) (x : Place) 
   pub nearer : limit - made (place r.run registers memory (set x.rows n r.row)) < limit - made x
   nearer = omega (arith, one-made, below)
 
+-- The next issue is not refused.
+pub taken-next : (p : List ℕ) (s : State) (limit : ℕ) (lent : List Row) (x : Place) → Follows p s limit lent x
+    → number p (state x.run.machine x.registers x.memory) ≡ none
+unfolding run
+taken-next p s limit lent x f =
+    let taken = taken-so p (made x) s x.run x.registers x.memory f.ran in
+    ap (λ (o : Outcome). number p o.left) f.ran ∙ taken-still p (made x) s taken
+
+-- A refused run leaves the rows lent.
+pub refuses : (p : List ℕ) (n : ℕ) (s : State) (budget : ℕ) (lent : List Row) (e : Refusal) (m : Machine) (registers memory : List ℕ)
+    → outcome (Err e) m registers memory ≡ run p n s → traced (Err e) m registers memory lent ≡ run_traced p budget s lent
+unfolding run_traced
+refuses p n s budget lent e m registers memory o = go (number p s) refl
+  where
+    go : (k : Option ℕ) → number p s ≡ k
+        → traced (Err e) m registers memory lent ≡ record { run = run p (least budget (length lent)) s; rows = onto (rows_of p (run_issues p (least budget (length lent)) s)) lent }
+    go none h = absurd (not-refused p n s e m registers memory h o)
+    go (some j) h =
+        let same = refused-same p n (least budget (length lent)) j s h in
+        let ran : outcome (Err e) m registers memory ≡ run p (least budget (length lent)) s = o ∙ same.0 in
+        let rows : lent ≡ onto (rows_of p (run_issues p (least budget (length lent)) s)) lent =
+        sym (ap (λ is. onto (rows_of p is) lent) same.1 ∙ no_rows p lent) in cc
+
+-- A page is handed back of a run that is not refused.
+pub page-ok : (p : List ℕ) (s : State) (budget : ℕ) (lent : List Row) (x : Result Page Refusal) (m : Machine) (registers memory : List ℕ)
+    → number p s ≡ none → traced_page x m registers memory lent ≡ run_traced p budget s lent → IsOk x
+unfolding run_traced
+page-ok p s budget lent (Ok page) m registers memory h o = refl
+page-ok p s budget lent (Err e) m registers memory h o =
+    absurd (not-refused p (least budget (length lent)) s e m registers memory h (ap (λ (t : TracedRun). t.run) o))
+
 -- The end.
 
-pub not-spent : (a : RunAnswer) → is_spent a ≡ false → answered a ≡ given spent → ⊥
+pub not-spent : (a : Stop) → is_spent a ≡ false → given (ending_of a) ≡ given spent → ⊥
 not-spent Stopped e g = let z : ◌≡◌ {A = ℕ} 0 1 = cc in omega arith
 not-spent Stuck e g = let z : ◌≡◌ {A = ℕ} 0 1 = cc in omega arith
 not-spent Spent e g = let z : ◌≡◌ {A = ℕ} 0 1 = cc in omega arith
-not-spent (Refused n) e g = let z : ◌≡◌ {A = ℕ} 0 1 = cc in omega arith
 
 module _ (p : List ℕ) (s : State) (budget : ℕ) (lent : List Row) (x : Place) where
   abbrev most : ℕ
@@ -200,7 +230,7 @@ module _ (p : List ℕ) (s : State) (budget : ℕ) (lent : List Row) (x : Place)
   Whole = (run p most s ≡ run p (made x) s) × (run_issues p most s ≡ run_issues p (made x) s)
 
   -- it has made all its issues, or it has ended before
-  whole : Follows p s most lent x → (spent-so-far fewer : Bool) → is_spent x.run.answer ≡ spent-so-far
+  whole : Follows p s most lent x → (spent-so-far fewer : Bool) → is_spent x.run.stop ≡ spent-so-far
       → ltb (made x) most ≡ fewer → (spent-so-far && fewer) ≡ false → Whole
   unfolding run
   whole f true true e g h = absurd (let z : ◌≡◌ {A = ℕ} 0 1 = cc in omega arith)
@@ -211,16 +241,16 @@ module _ (p : List ℕ) (s : State) (budget : ℕ) (lent : List Row) (x : Place)
       let rest : ℕ = most - made x in
       let all : most ≡ made x + rest = omega (arith, f.within) in
       let w = ended-for-good p (made x) rest s
-      (λ k. not-spent x.run.answer e (ap (λ (o : Outcome). o.answer) f.ran ∙ k)) in
+      (λ k. not-spent x.run.stop e (ap (λ (o : Outcome). o.answer) f.ran ∙ k)) in
       (ap (λ b. run p b s) all ∙ w.0, ap (λ b. run_issues p b s) all ∙ w.1)
 
-  pub finishes : Follows p s most lent x → (is_spent x.run.answer && ltb x.run.issues most) ≡ false
-      → traced x.run x.registers x.memory x.rows ≡ run_traced p budget s lent
+  pub finishes : Follows p s most lent x → (is_spent x.run.stop && ltb x.run.issues most) ≡ false
+      → traced_run x.run x.registers x.memory x.rows ≡ run_traced p budget s lent
   unfolding run_traced
   finishes f stopped-here =
-      let w = whole f (is_spent x.run.answer) (ltb (made x) most) refl refl stopped-here in
+      let w = whole f (is_spent x.run.stop) (ltb (made x) most) refl refl stopped-here in
       rw (w.0, w.1) (traced-is f.ran f.rows)
     where
-      traced-is : {o : Outcome} {l : List Row} → outcome x.run x.registers x.memory ≡ o → x.rows ≡ l
-          → traced x.run x.registers x.memory x.rows ≡ record { run = o; rows = l }
+      traced-is : {o : Outcome} {l : List Row} → run_outcome x.run x.registers x.memory ≡ o → x.rows ≡ l
+          → traced_run x.run x.registers x.memory x.rows ≡ record { run = o; rows = l }
       traced-is e g = cc

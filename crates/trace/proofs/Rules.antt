@@ -1,18 +1,20 @@
 -- What the interpreter's claims say of a run with one issue more, and of one that has ended.
 use Rattle.std.proofs.Common.{◌≡◌, ℕ, zero, suc, ◌+◌, ◌%◌, ◌^◌, ◌<◌, true, false, List, [], ◌∷◌, ◌++◌, length, sym, refl, ap, ◌∙◌, append-nil, arith, length-append}
 use mathlib.Core.Option.{Option, none, some}
-use Rattle.answer.specs.Answer.{given}
+use Rattle.answer.specs.Answer.{given, refused}
 use Rattle.interpreter.proofs.Claims.{within-budget, joins, answers_number, looks-within, no-budget-looks, ends-by-record}
-use Rattle.interpreter.specs.Answer.{spent, answered}
+use Rattle.std.specs.Prelude.{Result, Ok, Err, Some, None, IsOk}
+use Rattle.answer.specs.Refusal.{row_of}
+use Rattle.interpreter.specs.Answer.{ending_of, spent}
 use Rattle.interpreter.specs.Choosing.{issued, issues, reached_by, reached, entries_to, look, looks_for, ending_at}
 use Rattle.interpreter.specs.Claims.{SomeThread, number_in}
-use Rattle.interpreter.specs.Run.{Outcome, outcome, number, run_issues, run_reached, run_answer, run_looks, run}
+use Rattle.interpreter.specs.Run.{Outcome, run_outcome, outcome, number, run_issues, run_reached, run_answer, run_looks, run}
 use Rattle.machine.proofs.Claims.{chooses, chooses_none}
 use Rattle.machine.specs.Claims.{FirstAfterLast}
-use Rattle.machine.specs.Scheduler.{runs, choice}
+use Rattle.machine.specs.Scheduler.{Choice, some_chosen, runs, choice}
 use Rattle.machine.specs.State.{State, state}
 use Rattle.trace.specs.Joining.{less_once, continued_run}
-use Rattle.trace.specs.Types.{Run, Machine, Choice, Chosen, NoneRunning}
+use Rattle.trace.specs.Types.{Run, Machine, Refusal}
 
 -- a run that is not refused reaches a state from which none of its program is
 pub taken-still : (p : List ℕ) (n : ℕ) (s : State) → number p s ≡ none → number p (run_reached p n s) ≡ none
@@ -33,7 +35,7 @@ looks-small p n s l = omega (arith, (looks-within p n s).high, within-budget p n
 -- Two runs as one.
 
 module _ (p : List ℕ) (n m : ℕ) (s : State) (first second : Run) (r d r' d' : List ℕ) (small : n + m < 2 ^ 32) (h : number p s ≡ none)
-    (e : outcome first r d ≡ run p n s) (f : outcome second r' d' ≡ run p m (run_reached p n s)) where
+    (e : run_outcome first r d ≡ run p n s) (f : run_outcome second r' d' ≡ run p m (run_reached p n s)) where
   abbrev twice : ℕ
   twice = entries_to (choice first.machine)
 
@@ -61,16 +63,16 @@ module _ (p : List ℕ) (n m : ℕ) (s : State) (first second : Run) (r d r' d' 
       let all = ap length (joins p n m s).issues ∙ length-append (run_issues p n s) (run_issues p m (run_reached p n s)) in
       omega (arith, here, there, all, within-budget p (n + m) s)
 
-  pub joined : outcome (continued_run first second) r' d' ≡ run p (n + m) s
+  pub joined : run_outcome (continued_run first second) r' d' ≡ run p (n + m) s
   unfolding run continued_run
   joined =
-      let a : answered second.answer ≡ run_answer p (n + m) s = ap (λ (o : Outcome). o.answer) f ∙ sym (joins p n m s).answer in
+      let a : given (ending_of second.stop) ≡ run_answer p (n + m) s = ap (λ (o : Outcome). o.answer) f ∙ sym (joins p n m s).answer in
       let g : state second.machine r' d' ≡ run_reached p (n + m) s = ap (λ (o : Outcome). o.left) f ∙ sym (joins p n m s).reached in
       rw (a, joined-issues, joined-looks, g)
 
 -- One issue.
 
-module _ (p : List ℕ) (x : State) (h : number p x ≡ none) (t d : ℕ) (e : choice x.machine ≡ Chosen t d) where
+module _ (p : List ℕ) (x : State) (h : number p x ≡ none) (t d : ℕ) (e : choice x.machine ≡ some_chosen t d) where
   pub one-issue : run_issues p 1 x ≡ record { before = x; thread = t } ∷ []
   unfolding run_issues issues
   one-issue = rw (h, e)
@@ -81,7 +83,7 @@ module _ (p : List ℕ) (x : State) (h : number p x ≡ none) (t d : ℕ) (e : c
 
 -- No issue more, where no thread is running.
 
-module _ (p : List ℕ) (x : State) (h : number p x ≡ none) (e : choice x.machine ≡ NoneRunning) where
+module _ (p : List ℕ) (x : State) (h : number p x ≡ none) (e : choice x.machine ≡ None) where
   none_more : (k : ℕ) → issues p k x ≡ []
   unfolding issues
   none_more zero = refl
@@ -107,7 +109,7 @@ module _ (p : List ℕ) (x : State) (h : number p x ≡ none) (e : choice x.mach
   unfolding run_looks
   quiet-looks k = rw (h, quiet-issues k, quiet-reached k)
 
-module _ (p : List ℕ) (n k : ℕ) (s : State) (h : number p s ≡ none) (e : choice (run_reached p n s).machine ≡ NoneRunning) where
+module _ (p : List ℕ) (n k : ℕ) (s : State) (h : number p s ≡ none) (e : choice (run_reached p n s).machine ≡ None) where
   abbrev end : State
   end = run_reached p n s
 
@@ -143,17 +145,21 @@ module _ (p : List ℕ) (n k number-given : ℕ) (s : State) (h : number p s ≡
   unfolding run run_issues run_reached run_answer run_looks
   refused-run = rw (h)
 
+  refused-none : run_issues p n s ≡ []
+  unfolding run_issues
+  refused-none = rw (h)
+
 -- A thread is running where a run is spent, and none where it is stopped or stuck.
 
-someone : (m : Machine) → SomeThread (runs m) → (c : Choice) → choice m ≡ c → (t : ℕ) × ((d : ℕ) × (choice m ≡ Chosen t d))
-someone m who (Chosen t d) e = (t, (d, e))
-someone m who NoneRunning e =
+someone : (m : Machine) → SomeThread (runs m) → (c : Choice) → choice m ≡ c → (t : ℕ) × ((d : ℕ) × (choice m ≡ some_chosen t d))
+someone m who (Some next) e = (next.thread, (next.distance, e))
+someone m who None e =
     let no : runs m who.0 ≡ false = (chooses_none m).0 e who.0 who.1 in
     let yes : runs m who.0 ≡ true = who.2 in
     absurd (let z : ◌≡◌ {A = ℕ} 0 1 = cc in omega arith)
 
 pub spent-chosen : (p : List ℕ) (n : ℕ) (s : State) → number p s ≡ none → run_answer p n s ≡ given spent
-    → (t : ℕ) × ((d : ℕ) × (choice (run_reached p n s).machine ≡ Chosen t d))
+    → (t : ℕ) × ((d : ℕ) × (choice (run_reached p n s).machine ≡ some_chosen t d))
 spent-chosen p n s h e =
     someone (run_reached p n s).machine ((ends-by-record p n s h).spent-exactly.0 e) (choice (run_reached p n s).machine) refl
 
@@ -161,14 +167,15 @@ chosen-below : (m : Machine) (t d : ℕ) → FirstAfterLast m t d → t < 8
 chosen-below m t d first = omega (arith, first.place)
 
 ended-none : (p : List ℕ) (n : ℕ) (s : State) → number p s ≡ none → (run_answer p n s ≡ given spent → ⊥)
-    → choice (run_reached p n s).machine ≡ NoneRunning
+    → choice (run_reached p n s).machine ≡ None
 ended-none p n s h not = go (choice (run_reached p n s).machine) refl
   where
-    go : (c : Choice) → choice (run_reached p n s).machine ≡ c → choice (run_reached p n s).machine ≡ NoneRunning
-    go NoneRunning e = e
-    go (Chosen t d) e =
-        let first = (chooses (run_reached p n s).machine t d).0 e in
-        absurd (not ((ends-by-record p n s h).spent-exactly.1 (t, chosen-below (run_reached p n s).machine t d first, first.running)))
+    go : (c : Choice) → choice (run_reached p n s).machine ≡ c → choice (run_reached p n s).machine ≡ None
+    go None e = e
+    go (Some next) e =
+        let m = (run_reached p n s).machine in
+        let first = (chooses m next.thread next.distance).0 e in
+        absurd (not ((ends-by-record p n s h).spent-exactly.1 (next.thread, chosen-below m next.thread next.distance first, first.running)))
 
 -- A run that does not answer spent is the same with a greater budget: it is refused, or no thread is running where it ends.
 pub ended-for-good : (p : List ℕ) (n k : ℕ) (s : State) → (run_answer p n s ≡ given spent → ⊥)
@@ -178,3 +185,31 @@ ended-for-good p n k s not = go (number p s) refl
     go : (o : Option ℕ) → number p s ≡ o → (run p (n + k) s ≡ run p n s) × (run_issues p (n + k) s ≡ run_issues p n s)
     go (some j) t = (refused-run p (n + k) n j s t, refused-issues p (n + k) n j s t)
     go none t = let quiet = ended-none p n s t not in (ended-run p n k s t quiet, ended-issues p n k s t quiet)
+
+-- A call's result, by whether the table has a number for the run.
+
+pub not-refused : (p : List ℕ) (n : ℕ) (s : State) (e : Refusal) (m : Machine) (r d : List ℕ) → number p s ≡ none → outcome (Err e) m r d ≡ run p n s → ⊥
+unfolding run run_answer
+not-refused p n s e m r d h o =
+    let a : refused (row_of e) ≡ run_answer p n s = ap (λ (x : Outcome). x.answer) o in
+    let b : run_answer p n s ≡ given (ending_at (reached p n s)) = rw h in
+    let z : ◌≡◌ {A = ℕ} 0 1 = cc in omega arith
+
+pub taken-ok : (p : List ℕ) (n : ℕ) (s : State) (x : Result Run Refusal) (m : Machine) (r d : List ℕ) → number p s ≡ none
+    → outcome x m r d ≡ run p n s → IsOk x
+taken-ok p n s (Ok y) m r d h o = refl
+taken-ok p n s (Err e) m r d h o = absurd (not-refused p n s e m r d h o)
+
+pub taken-so : (p : List ℕ) (n : ℕ) (s : State) (x : Run) (r d : List ℕ) → run_outcome x r d ≡ run p n s → number p s ≡ none
+unfolding run run_answer
+taken-so p n s x r d o = go (number p s) refl
+  where
+    go : (k : Option ℕ) → number p s ≡ k → number p s ≡ none
+    go none h = h
+    go (some j) h =
+        let a : given (ending_of x.stop) ≡ run_answer p n s = ap (λ (y : Outcome). y.answer) o in
+        let b : run_answer p n s ≡ refused j = rw h in
+        absurd (let z : ◌≡◌ {A = ℕ} 0 1 = cc in omega arith)
+
+pub refused-same : (p : List ℕ) (n k j : ℕ) (s : State) → number p s ≡ some j → (run p n s ≡ run p k s) × (run_issues p k s ≡ [])
+refused-same p n k j s h = (refused-run p n k j s h, refused-none p k k j s h)

@@ -5,7 +5,7 @@ use Rattle.answer.specs.Answer.{given}
 use Rattle.execution.specs.Registers.{program_counter}
 use Rattle.interpreter.specs.Answer.{spent}
 use Rattle.interpreter.specs.Choosing.{Issue}
-use Rattle.interpreter.specs.Run.{outcome, number, run_issues, run_reached, run_answer, run}
+use Rattle.interpreter.specs.Run.{run_outcome, number, run_issues, run_reached, run_answer, run}
 use Rattle.machine.specs.State.{State}
 use Rattle.trace.specs.Joining.{continued_run}
 use Rattle.trace.specs.Rows.{rows_of}
@@ -17,8 +17,8 @@ use Rattle.trace.specs.Types.{Row, Run}
 -- two runs, one after the other, are continued as the one run with both budgets hands back
 abbrev pub Continues : Type 0
 Continues = (p : List ℕ) (n m : ℕ) (s : State) (first second : Run) (r d r' d' : List ℕ) → n + m < 2 ^ 32 → number p s ≡ none
-    → outcome first r d ≡ run p n s → outcome second r' d' ≡ run p m (run_reached p n s)
-    → outcome (continued_run first second) r' d' ≡ run p (n + m) s
+    → run_outcome first r d ≡ run p n s → run_outcome second r' d' ≡ run p m (run_reached p n s)
+    → run_outcome (continued_run first second) r' d' ≡ run p (n + m) s
 
 -- a run that does not answer spent is the same with a greater budget
 abbrev pub EndsForGood : Type 0

@@ -12,7 +12,7 @@ less_once looks again = (looks % 2 ^ 64 + (2 ^ 64 - again)) % 2 ^ 64
 unfoldable pub continued_run : Run → Run → Run
 continued_run first second =
     record {
-      answer = second.answer;
+      stop = second.stop;
       issues = (first.issues + second.issues) % 2 ^ 32;
       looks = less_once (first.looks + second.looks) (entries_to (choice first.machine));
       machine = second.machine;

@@ -1,7 +1,7 @@
 -- What a turn of the traced run's loop promises.
 use Rattle.std.specs.Prelude.{◌≡◌, ℕ, List}
 use Rattle.execution.specs.Registers.{program_counter}
-use Rattle.interpreter.specs.Run.{outcome, run}
+use Rattle.interpreter.specs.Run.{run_outcome, run}
 use Rattle.machine.specs.Machine.{status_at}
 use Rattle.machine.specs.Scheduler.{choose}
 use Rattle.machine.specs.State.{state}
@@ -27,6 +27,6 @@ row_after p registers t reached =
 pub record Advanced (p : List ℕ) (from : Run) (registers memory : List ℕ) (r : Step) (left-registers left-memory : List ℕ) : Type 0
   where
     pub one : Run
-    pub ran : outcome one left-registers left-memory ≡ run p 1 (state from.machine registers memory)
+    pub ran : run_outcome one left-registers left-memory ≡ run p 1 (state from.machine registers memory)
     pub next : r.run ≡ continued_run from one
     pub row : r.row ≡ row_after p registers (next_thread from.machine) one.machine

@@ -5,21 +5,17 @@ ghost use Rattle.machine.specs.Scheduler.{choice};
 ghost use Rattle.trace.specs.Joining.{continued_run};
 
 use interpreter::Run;
-use machine::{Choice, Machine};
+use machine::Machine;
 
 // How many entries are looked at to choose from a record.
+#[tactic(auto, unfolding(machine::specs::Scheduler::choose))]
 fn entries_to_next(machine: Machine) -> u64
     ensures { result ≡ entries_to (choice machine) }
 {
-    let turn = machine.choose();
-    let choice = turn.choice;
-    match choice {
-        Choice::NoneRunning => 8,
-        Choice::Chosen {
-            thread: _,
-            distance,
-        } => distance as u64,
-    }
+    machine
+        .choose()
+        .choice
+        .map_or(8, |next| next.distance as u64)
 }
 
 // What a run hands back that does what `first` did, and then what `second` did from the machine that `first` left. Both looked at the
@@ -31,7 +27,7 @@ pub fn continued(first: Run, second: Run) -> Run
     let again = entries_to_next(first.machine);
     let looks = first.looks.wrapping_add(second.looks);
     Run {
-        answer: second.answer,
+        stop: second.stop,
         issues: first.issues.wrapping_add(second.issues),
         looks: looks.wrapping_sub(again),
         machine: second.machine,

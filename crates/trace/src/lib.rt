@@ -9,4 +9,4 @@ mod tracing;
 pub use joining::continued;
 pub use page::{PAGE_ROWS, Page, run_page};
 pub use row::Row;
-pub use tracing::run_traced;
+pub use tracing::{run_traced, smaller};

@@ -1,10 +1,11 @@
 // A page of rows by value, for callers without a list of their own.
 ghost use Rattle.std.specs.Prelude.{◌≡◌};
 ghost use Rattle.machine.specs.State.{state};
-ghost use Rattle.trace.specs.Traced.{traced, run_traced};
+ghost use Rattle.trace.specs.Traced.{traced_page, run_traced};
 
 use crate::row::Row;
 use crate::tracing::run_traced;
+use answer::Refusal;
 use interpreter::Run;
 use machine::Machine;
 
@@ -17,7 +18,7 @@ pub struct Page {
     pub rows: [Row; PAGE_ROWS],
 }
 
-// Lends the list to a traced run, and hands it back.
+// Lends the list to a traced run, and hands it back; where the run is refused, the caller has its own as it was.
 pub fn run_page(
     program: &[u32],
     registers: &mut [u32],
@@ -25,10 +26,10 @@ pub fn run_page(
     machine: Machine,
     budget: u32,
     mut rows: [Row; PAGE_ROWS],
-) -> Page
-    ensures { traced result.run registers.new memory.new result.rows
+) -> Result<Page, Refusal>
+    ensures { traced_page result machine registers.new memory.new rows
         ≡ run_traced program.now budget (state machine registers.old memory.old) rows }
 {
-    let run = run_traced(program, registers, memory, machine, budget, &mut rows);
-    Page { run, rows }
+    let run = run_traced(program, registers, memory, machine, budget, &mut rows)?;
+    Ok(Page { run, rows })
 }

@@ -1,12 +1,15 @@
 // The traced run: the plain run with a budget of one issue, time after time, and a row of the list for each.
 ghost use Rattle.std.specs.Prelude.{◌≡◌, ◌&&◌, length, nat_lt};
+ghost use Rattle.std.proofs.Math.Option.{none};
+ghost use Rattle.interpreter.specs.Run.{number};
 ghost use Rattle.machine.specs.State.{state};
 ghost use Rattle.trace.specs.Traced.{least, is_spent, traced, run_traced};
 ghost use Rattle.trace.specs.Turn.{Advanced};
 
 use crate::joining::continued;
 use crate::row::{Row, address_of, next_thread, status_of, word_at};
-use interpreter::{Run, RunAnswer};
+use answer::Refusal;
+use interpreter::{Run, Stop};
 use machine::Machine;
 
 // One issue more: what the plain run hands back that makes so many, and the row for the issue.
@@ -18,7 +21,7 @@ pub struct Step {
 
 // The smaller of a budget and a list's length.
 #[tactic(auto, unfolding(crate::specs::Traced::least))]
-fn smaller(budget: u32, room: usize) -> u32
+pub fn smaller(budget: u32, room: usize) -> u32
     ensures { result ≡ least budget room }
 {
     if room < budget as usize {
@@ -28,22 +31,23 @@ fn smaller(budget: u32, room: usize) -> u32
     }
 }
 
-// Whether a run goes on: it is not refused, has a thread running, and may make an issue more.
+// Whether a run goes on: it has a thread running, and may make an issue more.
 fn goes_on(run: Run, limit: u32) -> bool
-    ensures { result ≡ (is_spent run.answer && nat_lt run.issues limit) }
+    ensures { result ≡ (is_spent run.stop && nat_lt run.issues limit) }
 {
-    matches!(run.answer, RunAnswer::Spent) & (run.issues < limit)
+    (run.stop == Stop::Spent) & (run.issues < limit)
 }
 
-// The next issue, by a run with a budget of one.
+// The next issue, by a run with a budget of one. A run that goes on from one that was taken is not refused.
 fn advance(program: &[u32], registers: &mut [u32], memory: &mut [u8], so_far: Run) -> Step
+    requires { number program.now (state so_far.machine registers.old memory.old) ≡ none }
     ensures { Advanced program.now so_far registers.old memory.old
         result registers.new memory.new }
 {
     let thread = next_thread(so_far.machine);
     let address = address_of(registers, thread);
     let word = word_at(program, address);
-    let one = interpreter::run(program, registers, memory, so_far.machine, 1);
+    let one = interpreter::run(program, registers, memory, so_far.machine, 1).unwrap();
     Step {
         run: continued(so_far, one),
         row: Row {
@@ -64,16 +68,16 @@ pub fn run_traced(
     machine: Machine,
     budget: u32,
     rows: &mut [Row],
-) -> Run
-    ensures { traced result registers.new memory.new rows.new
+) -> Result<Run, Refusal>
+    ensures { traced result machine registers.new memory.new rows.new
         ≡ run_traced program.now budget (state machine registers.old memory.old) rows.old }
 {
     let limit = smaller(budget, rows.len());
-    let mut run = interpreter::run(program, registers, memory, machine, 0);
+    let mut run = interpreter::run(program, registers, memory, machine, 0)?;
     while goes_on(run, limit) {
         let step = advance(program, registers, memory, run);
         rows[run.issues as usize] = step.row;
         run = step.run;
     }
-    run
+    Ok(run)
 }

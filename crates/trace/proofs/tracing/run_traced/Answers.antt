@@ -1,21 +1,36 @@
 -- What stays true from turn to turn is `Follows`.
+use Rattle.std.proofs.lemmas.Result.{err_from_is_err_and}
 use Rattle.std.proofs.Common.{◌≡◌, ◌<◌, true, ◌&&◌, ltb, length, sym, ◌∙◌, arith, ltb-true}
 use Rattle.machine.specs.State.{state}
 use Rattle.trace.specs.Traced.{least, is_spent}
-use Rattle.trace.proofs.Following.{place, both, limited, begins, follows_on, nearer, finishes}
+use Rattle.trace.proofs.Following.{place, both, limited, begins, taken-next, follows_on, nearer, refuses, finishes}
 use Rattle.trace.proofs.tracing.run_traced.Goals as goal
 
 pub loop-registers-init : goal.loop-registers-init
 loop-registers-init c =
     let a = c.args in
-    begins a.program.now (state a.machine a.registers.now a.memory.now) (least a.budget (length a.rows.now)) a.rows.now _ _ _ c.run-run.ensures
+    begins a.program.now (state a.machine a.registers.now a.memory.now) (least a.budget (length a.rows.now)) a.rows.now _ _ _ c.in_ok-run.ensures
+
+pub returns-in_err-run : goal.returns-in_err-run
+returns-in_err-run c =
+    let a = c.args in
+    let p = err_from_is_err_and c.from_residual.result c.from_residual.ensures.1 in
+    rw (p.1, p.2)
+    (refuses a.program.now 0 (state a.machine a.registers.now a.memory.now) a.budget a.rows.now _ a.machine _ _ c.in_err-run.ensures)
+
+pub advance-step-requires : goal.advance-step-requires
+advance-step-requires c =
+    let a = c.args in
+    let l = c.loop-registers in
+    taken-next a.program.now (state a.machine a.registers.now a.memory.now) (least a.budget (length a.rows.now)) a.rows.now
+    (place l.run l.registers l.memory l.rows) l.invariant
 
 pub bounds-rows-run : goal.bounds-rows-run
 bounds-rows-run c =
     let a = c.args in
     let l = c.loop-registers in
-    let go : (is_spent l.run.answer && ltb l.run.issues (least a.budget (length a.rows.now))) ≡ true = rw c.smaller-limit.ensures at (sym c.goes_on.ensures ∙ c.loop-registers-test.true) in
-    let below : l.run.issues < least a.budget (length a.rows.now) = ltb-true _ _ (both (is_spent l.run.answer) (ltb l.run.issues (least a.budget (length a.rows.now))) go).1 in
+    let go : (is_spent l.run.stop && ltb l.run.issues (least a.budget (length a.rows.now))) ≡ true = rw c.smaller-limit.ensures at (sym c.goes_on.ensures ∙ c.loop-registers-test.true) in
+    let below : l.run.issues < least a.budget (length a.rows.now) = ltb-true _ _ (both (is_spent l.run.stop) (ltb l.run.issues (least a.budget (length a.rows.now))) go).1 in
     omega (arith, below, (limited a.budget a.rows.now c.ranges.budget.fits).room, l.auto.rows)
 
 pub loop-registers-preserved : goal.loop-registers-preserved
