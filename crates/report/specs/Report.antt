@@ -4,7 +4,7 @@ use Rattle.isa.specs.Text.{bytes}
 use Rattle.text.specs.Number.{decimal, decimal_long}
 use Rattle.thread_lines.specs.Lines.{thread_parts}
 use Rattle.text.specs.Parts.{concat}
-use Rattle.report.specs.Types.{RunAnswer, Stopped, Stuck, Spent, RunRefused, Run, Machine}
+use Rattle.report.specs.Types.{Stop, Stopped, Stuck, Spent, Run, Machine}
 
 -- what is counted, behind the number
 unfoldable pub counted : ℕ → List ℕ
@@ -14,15 +14,14 @@ counted issues = cond (eqb issues 1) (bytes " issue\n") (bytes " issues\n")
 abbrev pub body_parts : List ℕ → ℕ → Machine → List ℕ → List (List ℕ)
 body_parts word issues m registers = word ∷ bytes " after " ∷ decimal issues ∷ counted issues ∷ thread_parts m registers
 
-abbrev pub report_parts : RunAnswer → ℕ → Machine → List ℕ → List (List ℕ)
+abbrev pub report_parts : Stop → ℕ → Machine → List ℕ → List (List ℕ)
 report_parts Stopped issues m registers = body_parts (bytes "stopped") issues m registers
 report_parts Stuck issues m registers = body_parts (bytes "stuck") issues m registers
 report_parts Spent issues m registers = body_parts (bytes "spent") issues m registers
-report_parts (RunRefused number) issues m registers = []
 
--- nothing is printed of a refused run
+-- nothing is printed of a refused run, which has no such record
 unfoldable pub report : Run → List ℕ → List ℕ
-report run registers = concat (report_parts run.answer run.issues run.machine registers)
+report run registers = concat (report_parts run.stop run.issues run.machine registers)
 
 -- "The run reports how many entries it looked at" (02, T-13): a line of its own, for who asks for it
 abbrev pub looks_parts : ℕ → List (List ℕ)

@@ -5,7 +5,7 @@ ghost use Rattle.text.specs.Parts.{puts_all};
 ghost use Rattle.report.specs.Report.{counted, body_parts, report};
 
 use answer::REGISTER_WORDS;
-use interpreter::{Run, RunAnswer};
+use interpreter::{Run, Stop};
 use text::{put_decimal, put_text};
 use thread_lines::put_threads;
 
@@ -36,14 +36,13 @@ fn put_body(out: &mut [u8], word: &[u8], run: Run, registers: &[u32; REGISTER_WO
 // The longest text: 32 bytes for the first line, 93 for each thread, and 101 for the line of those that are off.
 pub const LONGEST: usize = 877;
 
-// Puts the text for a run at the start of the buffer, and answers its length: 0 for a refused run, of which nothing is printed.
+// Puts the text for a run at the start of the buffer, and answers its length. A refused run has none: nothing is printed of it.
 pub fn write_report(run: Run, registers: &[u32; REGISTER_WORDS], out: &mut [u8; LONGEST]) -> usize
     ensures { wrote result out.new ≡ writes out.old 0 (report run registers.now) }
 {
-    match run.answer {
-        RunAnswer::Stopped => put_body(out, b"stopped", run, registers),
-        RunAnswer::Stuck => put_body(out, b"stuck", run, registers),
-        RunAnswer::Spent => put_body(out, b"spent", run, registers),
-        RunAnswer::Refused(_) => 0,
+    match run.stop {
+        Stop::Stopped => put_body(out, b"stopped", run, registers),
+        Stop::Stuck => put_body(out, b"stuck", run, registers),
+        Stop::Spent => put_body(out, b"spent", run, registers),
     }
 }

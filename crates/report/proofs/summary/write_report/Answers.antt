@@ -1,12 +1,10 @@
--- `write_report` meets its contract, by the answer.
+-- By how the run ended: each word is short, so that the text has room.
 use native.Mathlib.Omega.{arith}
 use mathlib.Core.Path.{◌∙◌}
 use lib.Dec.{lit≤}
 use Rattle.isa.specs.Text.{bytes}
-use Rattle.text.proofs.Placing.{writes-none}
 use Rattle.report.proofs.Lengths.{body-whole}
 use Rattle.report.specs.Report.{report}
-use Rattle.text.specs.Parts.{concat}
 use Rattle.report.proofs.summary.write_report.Goals as goal
 
 pub returns-in-Stopped : goal.returns-in-Stopped
@@ -29,7 +27,3 @@ returns-in-Spent c =
     let x = c.args in
     rw c.in-Spent.is
     (c.put_body-in-Spent.ensures ∙ body-whole x.out.now (bytes "spent") x.run.issues x.run.machine x.registers.now (omega arith) (lit≤ tt))
-
-pub returns-in-Refused : goal.returns-in-Refused
-unfolding report concat
-returns-in-Refused c = rw c.in-Refused.is (writes-none c.args.out.now 0)
