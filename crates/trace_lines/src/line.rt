@@ -6,7 +6,7 @@ ghost use Rattle.text.specs.Buffer.{wrote, puts};
 ghost use Rattle.text.specs.Parts.{puts_all};
 ghost use Rattle.trace_lines.specs.Lines.{status_parts, is_outside, name_in, numbers_parts, hex_parts, line_parts};
 
-use isa::Reading;
+use isa::Unreadable;
 use text::{hex_of, put_decimal, put_long, put_text};
 use thread_entry::Status;
 use thread_lines::put_carried;
@@ -45,12 +45,12 @@ fn put_label(out: &mut [u8], at: usize, word: u32) -> usize
     ensures { wrote result out.new ≡ puts (wrote at out.old) (label word) }
 {
     match isa::read_word(word) {
-        Reading::Defined(i) => {
+        Ok(i) => {
             let name = names::name_of(i);
             put_text(out, at, &name.bytes[..name.len])
         }
-        Reading::Undefined => put_text(out, at, b"undefined"),
-        Reading::NotFitted => put_text(out, at, b"not-fitted"),
+        Err(Unreadable::Undefined) => put_text(out, at, b"undefined"),
+        Err(Unreadable::NotFitted) => put_text(out, at, b"not-fitted"),
     }
 }
 

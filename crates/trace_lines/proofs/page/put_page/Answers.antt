@@ -11,10 +11,6 @@ use Rattle.trace_lines.specs.Types.{Row}
 use Rattle.trace_lines.proofs.Pages.{page-more}
 use Rattle.trace_lines.proofs.page.put_page.Goals as goal
 
-
-
-
-
 pub loop-i-preserved : goal.loop-i-preserved
 loop-i-preserved c =
     let l = c.loop-i in
