@@ -1,11 +1,18 @@
 -- An answer as a line of text (document 02, T-14): "prints for each line minute, skipped and relays in decimal, a space apart, or
 -- `refused` and the number".
-use Rattle.std.specs.Prelude.{ℕ, List, [], ◌∷◌}
+use Rattle.std.specs.Prelude.{Result, Ok, Err, ℕ, List, [], ◌∷◌}
 use Rattle.answer.specs.Answer.{Answer, given, refused}
 use Rattle.isa.specs.Text.{bytes}
-use Rattle.night.specs.Answer.{Report}
+use Rattle.answer.specs.Refusal.{row_of}
+use Rattle.night.specs.Answer.{Report, report}
 use Rattle.text.specs.Number.{decimal}
 use Rattle.text.specs.Parts.{concat}
+use Rattle.minute_lines.specs.Types.{Refusal, Tick}
+
+-- what a call answers, as the code says it
+abbrev pub answered : Result Tick Refusal → Answer Report
+answered (Ok tick) = given (report tick.minute tick.skipped tick.relays)
+answered (Err refusal) = refused (row_of refusal)
 
 -- "minute, skipped and relays in decimal, a space apart"
 unfoldable pub report_parts : ℕ → ℕ → ℕ → List (List ℕ)

@@ -1,5 +1,5 @@
 -- What the program prints for its input, line by line and byte by byte (document 02, T-14).
-use Rattle.std.specs.Prelude.{ℕ, Bool, true, false, cond, List, [], ◌∷◌, ◌++◌, eqb}
+use Rattle.std.specs.Prelude.{Result, Ok, Err, Some, ℕ, Bool, true, false, cond, List, [], ◌∷◌, ◌++◌, eqb}
 use Rattle.std.proofs.Math.Option.{Option, none, some}
 use Rattle.answer.specs.Answer.{refused, bad-minute}
 use Rattle.machine.specs.State.{State, state}
@@ -10,7 +10,7 @@ use Rattle.text.specs.Buffer.{Wrote, wrote, writes}
 use Rattle.minute_lines.specs.Answers.{answer_text}
 use Rattle.minute_lines.specs.Line.{Given, read_line}
 use Rattle.minute_lines.specs.Parsing.{with_byte, reading_in}
-use Rattle.minute_lines.specs.Types.{Line, Empty, Digits, Marked, Wrong, Kept, Held, Step}
+use Rattle.minute_lines.specs.Types.{Line, Empty, Digits, Marked, Wrong, Refusal, Tick, Kept, Held, Step}
 
 -- Line by line.
 
@@ -64,6 +64,11 @@ held machine kept line registers memory = record { kept = kept; line = line; lef
 
 abbrev pub held_in : Held → List ℕ → List ℕ → Between
 held_in h registers memory = held h.machine h.kept h.line registers memory
+
+-- what is held behind a line, by what its call answered
+abbrev pub held_after : Held → Result Tick Refusal → Held
+held_after h (Ok tick) = record { machine = tick.machine; kept = Some tick.minute; line = Empty }
+held_after h (Err refusal) = record { machine = h.machine; kept = h.kept; line = Empty }
 
 -- what is held then, and the text that a byte calls for
 pub record Took : Type 0 where

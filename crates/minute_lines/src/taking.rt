@@ -3,49 +3,70 @@ ghost use Rattle.std.specs.Prelude.{◌≡◌};
 ghost use Rattle.machine.specs.State.{state};
 ghost use Rattle.night.specs.Tick.{outcome};
 ghost use Rattle.minute_lines.specs.Parsing.{reading_in};
-ghost use Rattle.minute_lines.specs.Taking.{is_empty, held_in, stepped, tick_on, end_line, take_byte, take_end, shown};
+ghost use Rattle.minute_lines.specs.Taking.{is_empty, held_after, held_in, stepped, tick_on, end_line, take_byte, take_end, shown};
 
 use crate::answers::{LONGEST, write_answer};
 use crate::parsing::{Line, Reading, minute_in, with_byte};
+use answer::Refusal;
 use machine::Machine;
-use night::{Kept, Tick, TickAnswer};
+use night::Tick;
 
 // What the program holds between two bytes, beside the registers and memory.
-#[derive(Clone, Copy)]
+#[derive(Clone, Copy, Debug, PartialEq, Eq)]
 pub struct Held {
     pub machine: Machine,
-    pub kept: Kept,
+    pub kept: Option<u32>,
     pub line: Line,
 }
 
 // What it holds then, and how many bytes of text stand at the start of the buffer.
-#[derive(Clone, Copy)]
+#[derive(Clone, Copy, Debug, PartialEq, Eq)]
 pub struct Step {
     pub held: Held,
     pub printed: usize,
 }
 
-// A line that is whole: a minute makes a call of the night box, and anything else is refused with 19.
-fn tick_on(program: &[u32], registers: &mut [u32], memory: &mut [u8], before: Held) -> Tick
-    ensures { outcome result registers.new memory.new
+impl Held {
+    // What is held behind a line, by what its call answered.
+    fn after(self, answer: Result<Tick, Refusal>) -> Held
+        ensures { result ≡ held_after self answer }
+    {
+        match answer {
+            Ok(tick) => Held {
+                machine: tick.machine,
+                kept: Some(tick.minute),
+                line: Line::Empty,
+            },
+            Err(_) => Held {
+                line: Line::Empty,
+                ..self
+            },
+        }
+    }
+}
+
+// A line that is whole: a minute makes a call of the night box, and anything else is refused.
+fn tick_on(
+    program: &[u32],
+    registers: &mut [u32],
+    memory: &mut [u8],
+    before: Held,
+) -> Result<Tick, Refusal>
+    ensures { outcome result before.kept before.machine registers.new memory.new
         ≡ tick_on program.now (state before.machine registers.old memory.old) before.kept (reading_in before.line) }
 {
-    match minute_in(before.line) {
-        None => Tick {
-            answer: TickAnswer::Refused(19),
-            machine: before.machine,
-            kept: before.kept,
-        },
-        Some(Reading { minute, marked }) => night::tick(
-            program,
-            registers,
-            memory,
-            before.machine,
-            before.kept,
-            minute,
-            marked,
-        ),
-    }
+    let Some(Reading { minute, marked }) = minute_in(before.line) else {
+        return Err(Refusal::Minute);
+    };
+    night::tick(
+        program,
+        registers,
+        memory,
+        before.machine,
+        before.kept,
+        minute,
+        marked,
+    )
 }
 
 // The end of a line.
@@ -59,14 +80,10 @@ fn end_line(
     ensures { stepped result registers.new memory.new out.new
         ≡ shown out.old (end_line program.now (held_in before registers.old memory.old)) }
 {
-    let tick = tick_on(program, registers, memory, before);
-    let printed = write_answer(tick.answer, out);
+    let answer = tick_on(program, registers, memory, before);
+    let printed = write_answer(answer, out);
     Step {
-        held: Held {
-            machine: tick.machine,
-            kept: tick.kept,
-            line: Line::Empty,
-        },
+        held: before.after(answer),
         printed,
     }
 }
