@@ -2,7 +2,8 @@
 use Prim.Native.Nat.{ℕ, ◌+◌, ◌-◌, ◌*◌, ◌^◌, ◌<◌, ◌≤◌}
 use mathlib.Core.Bool.{Bool, true, false, ◌&&◌, cond}
 use mathlib.Core.List.{List, [], ◌∷◌, ◌++◌}
-use mathlib.Core.Option.{none}
+use mathlib.Core.Option.{Option, none, some}
+use Rattle.std.specs.Prelude.{Err}
 use mathlib.Core.Path.{◌≡◌, refl, sym, ap, ◌∙◌}
 use native.Mathlib.Omega.{arith}
 use borrow.Author.Tests.{ltb-true, ltb-false}
@@ -13,14 +14,17 @@ use Rattle.interpreter.proofs.Claims.{answers_number, joins, no-budget, spends-b
 use Rattle.interpreter.specs.Answer.{spent}
 use Rattle.interpreter.specs.Choosing.{Issue}
 use Rattle.interpreter.specs.Claims.{number_in}
-use Rattle.interpreter.specs.Run.{Outcome, outcome, number, run_issues, run_reached, run_answer, run}
+use Rattle.interpreter.specs.Run.{Outcome, run_outcome, outcome, number, run_issues, run_reached, run_answer, run}
 use Rattle.interpreter.specs.declared.outcome.Run.{Run}
+use Rattle.answer.specs.declared.refusal.Refusal.{Refusal}
 use Rattle.machine.specs.State.{State, state}
+use Rattle.machine.specs.declared.record.Machine.{Machine}
 use Rattle.trace.proofs.Claims.{continues, ends-for-good, least-budget, least-room}
 use Rattle.trace.proofs.Following.{both, spent-given, not-spent}
 use Rattle.trace.proofs.Lists.{rows_append, rows-length}
+use Rattle.trace.proofs.Rules.{not-refused, refused-same, taken-so, taken-still}
 use Rattle.trace.specs.Rows.{rows_of, onto}
-use Rattle.trace.specs.Traced.{least, TracedRun, traced, run_traced, is_spent}
+use Rattle.trace.specs.Traced.{least, TracedRun, traced_run, run_traced, is_spent}
 use Rattle.trace.specs.declared.row.Row.{Row}
 use Rattle.capi_trace.specs.Calls.{filled, filling}
 use Rattle.capi_trace.specs.Numbers.{all_numbers, put_rows}
@@ -30,7 +34,7 @@ use Rattle.capi_trace.proofs.Putting.{rows-onto}
 -- what stays true from page to page: with `made` of the budget it is the plain run so far
 pub record Following (p : List ℕ) (s : State) (limit : ℕ) (lent : List ℕ) (made : ℕ) (r : Run) (registers memory numbers : List ℕ) : Type
     0 where
-  pub ran : outcome r registers memory ≡ run p made s
+  pub ran : run_outcome r registers memory ≡ run p made s
   pub within : made ≤ limit
   pub numbers-are : numbers ≡ onto (all_numbers (rows_of p (run_issues p made s))) lent
 
@@ -61,7 +65,7 @@ nothing_put lent p = refl
 
 -- a page makes no more issues than are left, and than it has rows
 pub page-few : (p : List ℕ) (left : ℕ) (s : State) (blank : List Row) (page : Run) (registers memory : List ℕ) (rows : List Row)
-    → length blank ≡ 64 → traced page registers memory rows ≡ run_traced p left s blank → (page.issues ≤ 64) × (page.issues ≤ left)
+    → length blank ≡ 64 → traced_run page registers memory rows ≡ run_traced p left s blank → (page.issues ≤ 64) × (page.issues ≤ left)
 unfolding run_traced run
 page-few p left s blank page registers memory rows blanks e =
     let made : page.issues ≡ length (run_issues p (least left (length blank)) s) = ap (λ (t : TracedRun). t.run.issues) e in
@@ -69,13 +73,13 @@ page-few p left s blank page registers memory rows blanks e =
     (omega (arith, made, most, blanks, least-room left (length blank)), omega (arith, made, most, least-budget left (length blank)))
 
 -- a run with no budget hands back where it began
-pub from-here : (p : List ℕ) (s : State) (r : Run) (registers memory : List ℕ) → outcome r registers memory ≡ run p 0 s
+pub from-here : (p : List ℕ) (s : State) (r : Run) (registers memory : List ℕ) → run_outcome r registers memory ≡ run p 0 s
     → state r.machine registers memory ≡ s
 unfolding run
 from-here p s r registers memory e = ap (λ (o : Outcome). o.left) e ∙ no-budget p s
 
 pub begun : (p : List ℕ) (s : State) (limit : ℕ) (lent : List ℕ) (r : Run) (registers memory : List ℕ)
-    → outcome r registers memory ≡ run p 0 s → Following p s limit lent 0 r registers memory lent
+    → run_outcome r registers memory ≡ run p 0 s → Following p s limit lent 0 r registers memory lent
 begun p s limit lent r registers memory e =
     record {
       ran = e;
@@ -84,9 +88,31 @@ begun p s limit lent r registers memory e =
           ∙ nothing_put lent p);
     }
 
+-- a refused run leaves the list as it was lent
+pub refuses : (p : List ℕ) (s : State) (limit : ℕ) (lent : List ℕ) (e : Refusal) (m : Machine) (registers memory : List ℕ)
+    → outcome (Err e) m registers memory ≡ run p 0 s → filled (outcome (Err e) m registers memory) lent ≡ filling p limit s lent
+unfolding filling
+refuses p s limit lent e m registers memory o = go (number p s) refl
+  where
+    go : (k : Option ℕ) → number p s ≡ k
+        → filled (outcome (Err e) m registers memory) lent ≡ filled (run p limit s) (onto (all_numbers (rows_of p (run_issues p limit s))) lent)
+    go none h = absurd (not-refused p 0 s e m registers memory h o)
+    go (some j) h =
+        let same = refused-same p 0 limit j s h in
+        let ran : outcome (Err e) m registers memory ≡ run p limit s = o ∙ same.0 in
+        let numbers : lent ≡ onto (all_numbers (rows_of p (run_issues p limit s))) lent =
+        sym (ap (λ is. onto (all_numbers (rows_of p is)) lent) same.1 ∙ nothing_put lent p) in cc
+
+-- the next page is not refused
+pub taken-next : {p : List ℕ} {s : State} {limit : ℕ} {lent : List ℕ} {made : ℕ} {r : Run} {registers memory numbers : List ℕ}
+    → Following p s limit lent made r registers memory numbers → number p (state r.machine registers memory) ≡ none
+unfolding run
+taken-next {p = p} {s = s} {made = made} {r = r} {registers = registers} {memory = memory} f =
+    ap (λ (o : Outcome). number p o.left) f.ran ∙ taken-still p made s (taken-so p made s r registers memory f.ran)
+
 module _ {p : List ℕ} {s : State} {limit : ℕ} {lent : List ℕ} (small : limit < 2 ^ 32) (fits : 7 * limit ≤ length lent) {made : ℕ} {r : Run}
     {registers memory numbers : List ℕ} (f : Following p s limit lent made r registers memory numbers)
-    (go : (is_spent r.answer && ltb made limit) ≡ true) {r' : Run} {registers' memory' numbers' : List ℕ}
+    (go : (is_spent r.stop && ltb made limit) ≡ true) {r' : Run} {registers' memory' numbers' : List ℕ}
     (q : Paged p r made (limit - made) registers memory numbers r' registers' memory' numbers') where
   abbrev page : Run
   page = q.page
@@ -105,7 +131,7 @@ module _ {p : List ℕ} {s : State} {limit : ℕ} {lent : List ℕ} (small : lim
   here = run_reached p made s
 
   below : made < limit
-  below = ltb-true made limit (both (is_spent r.answer) (ltb made limit) go).1
+  below = ltb-true made limit (both (is_spent r.stop) (ltb made limit) go).1
 
   part_left : part ≤ limit - made
   part_left = least-budget (limit - made) 64
@@ -116,7 +142,7 @@ module _ {p : List ℕ} {s : State} {limit : ℕ} {lent : List ℕ} (small : lim
   spent-here : run_answer p made s ≡ given spent
   unfolding run
   spent-here =
-      sym (ap (λ (o : Outcome). o.answer) f.ran) ∙ spent-given r.answer (both (is_spent r.answer) (ltb made limit) go).0
+      sym (ap (λ (o : Outcome). o.answer) f.ran) ∙ spent-given r.stop (both (is_spent r.stop) (ltb made limit) go).0
 
   taken : number p s ≡ none
   taken = sym (answers_number p made s) ∙ ap number_in spent-here
@@ -125,10 +151,10 @@ module _ {p : List ℕ} {s : State} {limit : ℕ} {lent : List ℕ} (small : lim
   unfolding run
   at_here = ap (λ (o : Outcome). o.left) f.ran
 
-  page-is : traced page registers' memory' rows ≡ run_traced p (limit - made) here blank
+  page-is : traced_run page registers' memory' rows ≡ run_traced p (limit - made) here blank
   page-is = q.ran ∙ ap (λ (y : State). run_traced p (limit - made) y blank) at_here
 
-  page-ran : outcome page registers' memory' ≡ run p part here
+  page-ran : run_outcome page registers' memory' ≡ run p part here
   unfolding run_traced
   page-ran = ap (λ (t : TracedRun). t.run) page-is ∙ ap (λ k. run p (least (limit - made) k) here) q.blanks
 
@@ -163,7 +189,7 @@ module _ {p : List ℕ} {s : State} {limit : ℕ} {lent : List ℕ} (small : lim
   turned =
       record {
         ran =
-            ap (λ y. outcome y registers' memory') q.next
+            ap (λ y. run_outcome y registers' memory') q.next
             ∙ continues p made part s r page registers memory registers' memory' more-fits taken f.ran page-ran;
         within = omega (arith, part_left, below);
         numbers-are =
@@ -183,7 +209,7 @@ module _ {p : List ℕ} {s : State} {limit : ℕ} {lent : List ℕ} (small : lim
 -- the end
 module _ (p : List ℕ) (s : State) (limit : ℕ) (lent : List ℕ) (made : ℕ) (r : Run) (registers memory numbers : List ℕ)
     (f : Following p s limit lent made r registers memory numbers) where
-  whole : (spent-so-far fewer : Bool) → is_spent r.answer ≡ spent-so-far → ltb made limit ≡ fewer → (spent-so-far && fewer) ≡ false
+  whole : (spent-so-far fewer : Bool) → is_spent r.stop ≡ spent-so-far → ltb made limit ≡ fewer → (spent-so-far && fewer) ≡ false
       → (run p limit s ≡ run p made s) × (run_issues p limit s ≡ run_issues p made s)
   unfolding run
   whole true true e g h = absurd (let z : ◌≡◌ {A = ℕ} 0 1 = cc in omega arith)
@@ -192,13 +218,13 @@ module _ (p : List ℕ) (s : State) (limit : ℕ) (lent : List ℕ) (made : ℕ)
       (ap (λ k. run p k s) all, ap (λ k. run_issues p k s) all)
   whole false fewer e g h =
       let all : limit ≡ made + (limit - made) = omega (arith, f.within) in
-      let w = ends-for-good p made (limit - made) s (λ k. not-spent r.answer e (ap (λ (o : Outcome). o.answer) f.ran ∙ k)) in
+      let w = ends-for-good p made (limit - made) s (λ k. not-spent r.stop e (ap (λ (o : Outcome). o.answer) f.ran ∙ k)) in
       (ap (λ b. run p b s) all ∙ w.0, ap (λ b. run_issues p b s) all ∙ w.1)
 
-  pub ended : (is_spent r.answer && ltb made limit) ≡ false → filled (outcome r registers memory) numbers ≡ filling p limit s lent
+  pub ended : (is_spent r.stop && ltb made limit) ≡ false → filled (run_outcome r registers memory) numbers ≡ filling p limit s lent
   unfolding filling
   ended stopped =
-      let w = whole (is_spent r.answer) (ltb made limit) refl refl stopped in
+      let w = whole (is_spent r.stop) (ltb made limit) refl refl stopped in
       (λ i. filled (f.ran i) (f.numbers-are i))
       ∙ ap (λ o. filled o (onto (all_numbers (rows_of p (run_issues p made s))) lent)) (sym w.0)
       ∙ ap (λ is. filled (run p limit s) (onto (all_numbers (rows_of p is)) lent)) (sym w.1)

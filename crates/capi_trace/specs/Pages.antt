@@ -3,7 +3,7 @@ use Rattle.std.specs.Prelude.{ℕ, List, ◌≡◌, length, take}
 use Rattle.interpreter.specs.declared.outcome.Run.{Run}
 use Rattle.machine.specs.State.{state}
 use Rattle.trace.specs.Joining.{continued_run}
-use Rattle.trace.specs.Traced.{traced, run_traced}
+use Rattle.trace.specs.Traced.{traced_run, run_traced}
 use Rattle.trace.specs.declared.row.Row.{Row}
 use Rattle.capi_trace.specs.Numbers.{put_rows}
 
@@ -14,6 +14,6 @@ pub record Paged (p : List ℕ) (so_far : Run) (made left : ℕ) (registers memo
   pub blank : List Row
   pub rows : List Row
   pub blanks : length blank ≡ 64
-  pub ran : traced page registers' memory' rows ≡ run_traced p left (state so_far.machine registers memory) blank
+  pub ran : traced_run page registers' memory' rows ≡ run_traced p left (state so_far.machine registers memory) blank
   pub next : r ≡ continued_run so_far page
   pub put : numbers' ≡ put_rows numbers made (take page.issues rows)

@@ -1,26 +1,44 @@
 // The traced run, from the machine record and into it.
 ghost use Rattle.std.specs.Prelude.{◌≡◌};
+ghost use Rattle.answer.specs.Answer.{given};
 ghost use Rattle.capi.specs.Answer.{ending_of};
-ghost use Rattle.capi.specs.Runs.{ran};
-ghost use Rattle.interpreter.specs.Answer.{answered};
+ghost use Rattle.capi.specs.Runs.{ran, called};
+ghost use Rattle.interpreter.specs.Answer.{ending_of as stop_of};
 ghost use Rattle.capi_trace.specs.Calls.{traced_ran, run_traced_call};
 
-use crate::filling::{fill, smaller};
+use crate::filling::fill;
 use crate::numbers::ROW_NUMBERS;
-use answer::{Verdict, first_refusal, lengths_verdict};
+use answer::{Refusal, lengths_verdict};
 use image::RECORD_LENGTH;
-use interpreter::RunAnswer;
+use interpreter::{Run, Stop};
 
-// How a run ended, as `korvammel_run` says it.
-fn ending(answer: RunAnswer) -> u32
-    ensures { result ≡ ending_of (answered answer) }
+// How a run that is not refused ended, as `korvammel_run` says it.
+fn ending(stop: Stop) -> u32
+    ensures { result ≡ ending_of (given (stop_of stop)) }
 {
-    match answer {
-        RunAnswer::Refused(_) => 0,
-        RunAnswer::Stopped => 1,
-        RunAnswer::Stuck => 2,
-        RunAnswer::Spent => 3,
+    match stop {
+        Stop::Stopped => 1,
+        Stop::Stuck => 2,
+        Stop::Spent => 3,
     }
+}
+
+// Runs a program from a machine record, and puts a row for each issue: the lengths are judged before the record's bytes.
+fn run_from(
+    program: &[u32],
+    registers: &mut [u32],
+    memory: &mut [u8],
+    bytes: &[u8; RECORD_LENGTH],
+    budget: u32,
+    rows: &mut [u32],
+) -> Result<Run, Refusal>
+    ensures { traced_ran (called result registers.new memory.new bytes.now) rows.new
+        ≡ run_traced_call program.now budget registers.old memory.old bytes.now rows.old }
+{
+    lengths_verdict(program.len(), registers.len(), memory.len())?;
+    let machine = image::read_record(bytes)?;
+    let limit = trace::smaller(budget, rows.len() / ROW_NUMBERS);
+    fill(program, registers, memory, machine, limit, rows)
 }
 
 // Runs a program, and puts a row for each issue.
@@ -37,28 +55,17 @@ pub fn korvammel_run_traced(
         ≡ run_traced_call program.now budget registers.old memory.old bytes.old
         rows.old }
 {
-    let lengths = lengths_verdict(program.len(), registers.len(), memory.len());
-    let opening = image::read_record(bytes);
-    let content = opening.verdict;
-    let machine = opening.machine;
-    let verdict = first_refusal(lengths, content);
-    match verdict {
-        Verdict::Refused(number) => {
-            *res = [0, 0, 0, 0];
-            number as u32
-        }
-        Verdict::Accepted => {
-            let limit = smaller(budget, rows.len() / ROW_NUMBERS);
-            let run = fill(program, registers, memory, machine, limit, rows);
-            let answer = run.answer;
-            let issues = run.issues;
-            let looks = run.looks;
-            let reached = run.machine;
-            image::write_record(reached, bytes);
-            let low = (looks % 0x100000000) as u32;
-            let high = (looks / 0x100000000) as u32;
-            *res = [ending(answer), issues, low, high];
+    match run_from(program, registers, memory, bytes, budget, rows) {
+        Ok(run) => {
+            image::write_record(run.machine, bytes);
+            let low = (run.looks % 0x100000000) as u32;
+            let high = (run.looks / 0x100000000) as u32;
+            *res = [ending(run.stop), run.issues, low, high];
             0
+        }
+        Err(refusal) => {
+            *res = [0, 0, 0, 0];
+            refusal.number() as u32
         }
     }
 }

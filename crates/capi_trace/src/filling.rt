@@ -1,37 +1,27 @@
 // A traced run page by page, each page's rows put as numbers.
 ghost use Rattle.std.specs.Prelude.{◌+◌, ◌*◌, ◌^◌, ◌≤◌, ◌<◌, ◌&&◌, ◌≡◌, ltb, length};
-ghost use Rattle.interpreter.specs.Run.{outcome};
+ghost use Rattle.std.proofs.Math.Option.{none};
+ghost use Rattle.interpreter.specs.Run.{outcome, number};
 ghost use Rattle.machine.specs.State.{state};
-ghost use Rattle.trace.specs.Traced.{is_spent, least};
+ghost use Rattle.trace.specs.Traced.{is_spent};
 ghost use Rattle.capi_trace.specs.Calls.{filled, filling};
 ghost use Rattle.capi_trace.specs.Pages.{Paged};
 
 use crate::numbers::put_page;
-use interpreter::{Run, RunAnswer};
+use answer::Refusal;
+use interpreter::{Run, Stop};
 use machine::Machine;
 use thread_entry::Status;
-use trace::{PAGE_ROWS, Row};
-
-// The smaller of a budget and the rows that there is room for.
-#[tactic(auto, unfolding(trace::specs::Traced::least))]
-pub fn smaller(budget: u32, room: usize) -> u32
-    ensures { result ≡ least budget room }
-{
-    if room < budget as usize {
-        room as u32
-    } else {
-        budget
-    }
-}
+use trace::{PAGE_ROWS, Row, smaller};
 
 // Whether a thread is running, and fewer issues were made than may be.
 fn goes_on(run: Run, made: u32, limit: u32) -> bool
-    ensures { result ≡ (is_spent run.answer && ltb made limit) }
+    ensures { result ≡ (is_spent run.stop && ltb made limit) }
 {
-    matches!(run.answer, RunAnswer::Spent) & (made < limit)
+    (run.stop == Stop::Spent) & (made < limit)
 }
 
-// One page more of a run: its rows are put behind those made.
+// One page more of a run, which is not refused: its rows are put behind those made.
 fn fill_page(
     program: &[u32],
     registers: &mut [u32],
@@ -41,7 +31,7 @@ fn fill_page(
     left: u32,
     numbers: &mut [u32],
 ) -> Run
-    requires { made + left < 2 ^ 32 }
+    requires { (made + left < 2 ^ 32) × (number program.now (state so_far.machine registers.old memory.old) ≡ none) }
     ensures { Paged program.now so_far made left registers.old memory.old numbers.old
         result registers.new memory.new numbers.new }
 {
@@ -58,7 +48,8 @@ fn fill_page(
         so_far.machine,
         left,
         [blank; PAGE_ROWS],
-    );
+    )
+    .unwrap();
     put_page(numbers, made, &page.rows[..page.run.issues as usize]);
     trace::continued(so_far, page.run)
 }
@@ -71,17 +62,17 @@ pub fn fill(
     machine: Machine,
     limit: u32,
     numbers: &mut [u32],
-) -> Run
+) -> Result<Run, Refusal>
     requires { 7 * limit ≤ length numbers.old }
-    ensures { filled (outcome result registers.new memory.new) numbers.new
+    ensures { filled (outcome result machine registers.new memory.new) numbers.new
         ≡ filling program.now limit (state machine registers.old memory.old) numbers.old }
 {
     let mut made: u32 = 0;
-    let mut run = interpreter::run(program, registers, memory, machine, 0);
+    let mut run = interpreter::run(program, registers, memory, machine, 0)?;
     while goes_on(run, made, limit) {
         let left = limit - made;
         run = fill_page(program, registers, memory, run, made, left, numbers);
         made += smaller(left, PAGE_ROWS);
     }
-    run
+    Ok(run)
 }
