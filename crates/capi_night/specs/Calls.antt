@@ -1,21 +1,22 @@
 -- A call of the night box (document 02, T-14), with the machine record as bytes and the kept minute as two numbers.
-use Rattle.std.specs.Prelude.{ℕ, not, cond, List, [], ◌∷◌, eqb, length, get_or}
+use Rattle.std.specs.Prelude.{Result, Ok, Err, Some, None, ℕ, not, cond, List, [], ◌∷◌, eqb, length, get_or}
 use Rattle.std.proofs.Math.Option.{Option, some}
 use Rattle.answer.specs.Answer.{Answer, given, refused}
-use Rattle.answer.specs.Refusal.{refused_or}
+use Rattle.answer.specs.Refusal.{row_of, refused_or}
+use Rattle.answer.specs.declared.refusal.Refusal.{Refusal}
 use Rattle.machine.specs.State.{State, state}
 use Rattle.image.specs.Image.{machine_in}
 use Rattle.image.specs.Opening.{no_blocks, record_bytes}
 use Rattle.night.specs.Answer.{Report}
 use Rattle.night.specs.Refusal.{clock_number}
 use Rattle.night.specs.Tick.{Outcome, tick}
-use Rattle.night.specs.declared.outcome.Kept.{Kept}
-use Rattle.night.specs.declared.outcome.Kept.TheVariants.{Nothing, Minute}
+use Rattle.night.specs.Types.{Kept}
+use Rattle.night.specs.declared.outcome.Tick.{Tick}
 use Rattle.capi.specs.Refusal.{run_number}
 
 -- the kept minute as two numbers: none where the first is 0, else the second
 unfoldable pub kept_in : List ℕ → Kept
-kept_in numbers = cond (eqb (get_or numbers 0 0) 0) Nothing (Minute (get_or numbers 1 0))
+kept_in numbers = cond (eqb (get_or numbers 0 0) 0) None (Some (get_or numbers 1 0))
 
 -- what a call answers and leaves: skipped minutes and relays, the kept minute, the register file, the memory, and the bytes of the record
 pub record Ticked : Type 0 where
@@ -33,6 +34,12 @@ ticked answer result kept registers memory opening =
 -- "after any of them memory and kept minute stay"
 abbrev pub refused_tick : ℕ → List ℕ → List ℕ → List ℕ → List ℕ → Ticked
 refused_tick number kept registers memory opening = ticked number (0 ∷ 0 ∷ []) kept registers memory opening
+
+-- by the code's result: a call that is refused leaves the bytes that it got
+abbrev pub returned : Result Tick Refusal → List ℕ → List ℕ → List ℕ → List ℕ → Ticked
+returned (Ok r) kept registers memory opening =
+    ticked 0 (r.skipped ∷ r.relays ∷ []) (1 ∷ r.minute ∷ []) registers memory (record_bytes r.machine)
+returned (Err refusal) kept registers memory opening = refused_tick (row_of refusal) kept registers memory opening
 
 abbrev pub answered_tick : Answer Report → List ℕ → List ℕ → State → Ticked
 answered_tick (given r) kept opening s =

@@ -1,56 +1,49 @@
 // One local minute of the night box, with the machine record as bytes and the kept minute as two numbers.
 ghost use Rattle.std.specs.Prelude.{◌≡◌};
-ghost use Rattle.machine.specs.State.{state};
-ghost use Rattle.night.specs.Tick.{tick};
-ghost use Rattle.capi_night.specs.Calls.{kept_in, ticked, handed, minute_call};
+ghost use Rattle.capi_night.specs.Calls.{kept_in, ticked, returned, minute_call};
 
-use answer::{Verdict, first_refusal, lengths_verdict};
+use answer::{Refusal, lengths_verdict};
 use image::RECORD_LENGTH;
-use machine::Machine;
-use night::{Kept, TickAnswer};
+use night::Tick;
 
 // The minute kept: none where the first number is 0, else the second.
-fn kept_in(numbers: &[u32; 2]) -> Kept
+#[tactic(auto, unfolding(crate::specs::Calls::kept_in))]
+fn kept_in(numbers: &[u32; 2]) -> Option<u32>
     ensures { result ≡ kept_in numbers.now }
 {
     if numbers[0] == 0 {
-        return Kept::Nothing;
+        None
+    } else {
+        Some(numbers[1])
     }
-    Kept::Minute(numbers[1])
 }
 
-// A minute from a record that its bytes were read into.
-fn take_minute(
+// One local minute from a machine record: the clock is judged first, then the lengths, then the record's bytes.
+fn minute_from(
     program: &[u32],
     registers: &mut [u32],
     memory: &mut [u8],
-    bytes: &mut [u8; RECORD_LENGTH],
-    kept: &mut [u32; 2],
-    machine: Machine,
-    last: Kept,
+    bytes: &[u8; RECORD_LENGTH],
+    kept: &[u32; 2],
     minute: u32,
-    marked: bool,
-    res: &mut [u32; 2],
-) -> u32
-    ensures { ticked result res.new kept.new registers.new memory.new bytes.new
-        ≡ handed kept.old bytes.old
-        (tick program.now (state machine registers.old memory.old) last minute marked) }
+    marked: u32,
+) -> Result<Tick, Refusal>
+    ensures { returned result kept.now registers.new memory.new bytes.now
+        ≡ minute_call program.now registers.old memory.old bytes.now kept.now minute marked }
 {
-    let tick = night::tick(program, registers, memory, machine, last, minute, marked);
-    let answer = tick.answer;
-    let reached = tick.machine;
-    match answer {
-        TickAnswer::Refused(number) => {
-            *res = [0, 0];
-            number as u32
-        }
-        TickAnswer::Reported(now, skipped, relays) => {
-            image::write_record(reached, bytes);
-            *kept = [1, now];
-            *res = [skipped, relays];
-            0
-        }
-    }
+    let last = kept_in(kept);
+    night::clock_verdict(memory.len(), last, minute)?;
+    lengths_verdict(program.len(), registers.len(), memory.len())?;
+    let machine = image::read_record(bytes)?;
+    night::tick(
+        program,
+        registers,
+        memory,
+        machine,
+        last,
+        minute,
+        marked != 0,
+    )
 }
 
 // One local minute; any `marked` but 0 marks the autumn fall-back.
@@ -67,30 +60,16 @@ pub fn korvammel_night_minute(
     ensures { ticked result res.new kept.new registers.new memory.new bytes.new
         ≡ minute_call program.now registers.old memory.old bytes.old kept.old minute marked }
 {
-    let last = kept_in(kept);
-    let clock = night::clock_verdict(memory.len(), last, minute);
-    let lengths = lengths_verdict(program.len(), registers.len(), memory.len());
-    let opening = image::read_record(bytes);
-    let content = opening.verdict;
-    let machine = opening.machine;
-    let run = first_refusal(lengths, content);
-    let verdict = first_refusal(clock, run);
-    match verdict {
-        Verdict::Refused(number) => {
-            *res = [0, 0];
-            number as u32
+    match minute_from(program, registers, memory, bytes, kept, minute, marked) {
+        Ok(tick) => {
+            image::write_record(tick.machine, bytes);
+            *kept = [1, tick.minute];
+            *res = [tick.skipped, tick.relays];
+            0
         }
-        Verdict::Accepted => take_minute(
-            program,
-            registers,
-            memory,
-            bytes,
-            kept,
-            machine,
-            last,
-            minute,
-            marked != 0,
-            res,
-        ),
+        Err(refusal) => {
+            *res = [0, 0];
+            refusal.number() as u32
+        }
     }
 }
