@@ -1,59 +1,29 @@
 // A run goes on from where it ended: with a line of text for each issue, and then without.
-ghost use Rattle.std.specs.Prelude.{◌-◌, ◌≤◌};
-
-use interpreter::{Run, RunAnswer};
+use crate::failure::{Failure, told};
+use interpreter::{Run, Stop};
 use std::io;
 use thread_entry::Status;
 use trace::{PAGE_ROWS, Row};
 use trace_lines::PAGE_LONGEST;
 
-// A run, and whether all its lines were written.
-#[derive(Clone, Copy)]
-pub struct Traced {
-    pub run: Run,
-    pub printed: bool,
-}
-
-// Prints the lines of the first rows of a page, before which so many issues were made, and answers whether that was written.
-fn print_page(rt: &(impl Print + Eprint), made: u32, rows: [Row; PAGE_ROWS], count: u32) -> bool {
+// Prints the lines of the first rows of a page, before which so many issues were made.
+fn print_page(
+    rt: &(impl Print + Eprint),
+    made: u32,
+    rows: [Row; PAGE_ROWS],
+    count: u32,
+) -> Result<(), Failure> {
     let mut text = [0u8; PAGE_LONGEST];
     let length = trace_lines::write_page(made, rows, count, &mut text);
-    files::write_stream(
+    told(files::write_stream(
         rt,
         &mut io::writer(rt),
         b"write standard output",
         &text[..length],
-    )
+    ))
 }
 
-// How many issues are still to be printed: none where no thread is running, or a line was lost.
-fn still(run: Run, printed: bool, left: u32) -> u32
-    ensures { result ≤ left }
-{
-    if !printed {
-        return 0;
-    }
-    let answer = run.answer;
-    match answer {
-        RunAnswer::Stopped => 0,
-        RunAnswer::Stuck => 0,
-        RunAnswer::Spent => left,
-        RunAnswer::Refused(_) => 0,
-    }
-}
-
-// How many of so many issues are left behind a page.
-fn behind_page(left: u32) -> u32
-    ensures { result ≤ left - 1 }
-{
-    let page = PAGE_ROWS as u32;
-    if left < page {
-        return 0;
-    }
-    left - page
-}
-
-// Goes on by so many issues, and prints a line for each, page by page.
+// Goes on by so many issues, and prints a line for each, page by page: as long as a thread is running, and no line was lost.
 fn print_rows(
     rt: &(impl Print + Eprint),
     program: &[u32],
@@ -61,7 +31,7 @@ fn print_rows(
     memory: &mut [u8],
     first: Run,
     rows: u32,
-) -> Traced {
+) -> Result<Run, Failure> {
     let blank = Row {
         thread: 0,
         address: 0,
@@ -69,25 +39,21 @@ fn print_rows(
         status: Status::Idle,
     };
     let mut run = first;
-    let mut printed = true;
-    let mut left = still(first, true, rows);
-    while 0 < left {
-        let reached = run.machine;
+    let mut left = rows;
+    while (0 < left) & matches!(run.stop, Stop::Spent) {
         let page = trace::run_page(
             program,
             registers,
             memory,
-            reached,
+            run.machine,
             left,
             [blank; PAGE_ROWS],
-        );
-        let next = page.run;
-        let list = page.rows;
-        printed = print_page(rt, run.issues, list, next.issues);
-        run = trace::continued(run, next);
-        left = still(run, printed, behind_page(left));
+        )?;
+        print_page(rt, run.issues, page.rows, page.run.issues)?;
+        run = trace::continued(run, page.run);
+        left = left.saturating_sub(PAGE_ROWS as u32);
     }
-    Traced { run, printed }
+    Ok(run)
 }
 
 // Goes on by so many issues with lines, and so many without.
@@ -99,17 +65,11 @@ pub fn go_on(
     first: Run,
     rows: u32,
     rest: u32,
-) -> Traced {
-    let traced = print_rows(rt, program, registers, memory, first, rows);
-    let printed = traced.printed;
-    if (rest == 0) | !printed {
-        return traced;
+) -> Result<Run, Failure> {
+    let run = print_rows(rt, program, registers, memory, first, rows)?;
+    if rest == 0 {
+        return Ok(run);
     }
-    let run = traced.run;
-    let machine = run.machine;
-    let next = interpreter::run(program, registers, memory, machine, rest);
-    Traced {
-        run: trace::continued(run, next),
-        printed,
-    }
+    let next = interpreter::run(program, registers, memory, run.machine, rest)?;
+    Ok(trace::continued(run, next))
 }

@@ -2,22 +2,24 @@
 // saves the machine where asked, and prints how the run ended.
 #![tactic(auto)]
 
+mod failure;
 mod going_on;
 mod saving;
 mod settings;
 
 ghost use Rattle.std.specs.Prelude.{◌≤◌, length};
+ghost use Rattle.files.specs.Reading.{size_of};
 ghost use Rattle.io.specs.Counts.{IsPrefixLen};
 ghost use Rattle.answer.specs.Refusal.{memory_bytes};
 
-use answer::{MEMORY_BYTES, PROGRAM_WORDS, REGISTER_WORDS};
-use files::{Filled, read_numbered, read_stream, refuse, write_numbered, write_stream};
-use image::ReadAnswer;
+use answer::{MEMORY_BYTES, PROGRAM_WORDS, REGISTER_WORDS, Refusal};
+use failure::{Failure, told};
+use files::{Failed, read_numbered, read_stream, refuse, write_numbered, write_stream};
 use image_sizes::{IMAGE_ROOM, memory_of};
-use interpreter::{Run, RunAnswer, StartAnswer};
+use interpreter::Run;
 use machine::Machine;
 use program::INPUT_BYTES;
-use settings::Settings;
+use settings::{Origin, Settings};
 use std::io;
 use std::rt::Files;
 
@@ -27,32 +29,41 @@ const SECOND_IN: &str = "/dev/fd/3";
 // The stream of the report where the lines of a trace have standard output, which the command opens.
 const REPORT_OUT: &str = "/dev/fd/5";
 
-// Prints a part of the report, and answers whether that was written.
-fn write_out(rt: &(impl Files + Print + Eprint), settings: Settings, text: &[u8]) -> bool {
+// Prints a part of the report.
+fn write_out(
+    rt: &(impl Files + Print + Eprint),
+    settings: Settings,
+    text: &[u8],
+) -> Result<(), Failure> {
     let failure: &[u8] = b"write standard output";
     if settings.rows == 0 {
-        return write_stream(rt, &mut io::writer(rt), failure, text);
+        told(write_stream(rt, &mut io::writer(rt), failure, text))
+    } else {
+        told(write_numbered(rt, REPORT_OUT, failure, text))
     }
-    write_numbered(rt, REPORT_OUT, failure, text)
 }
 
-// Prints how a run ended, and answers whether that was written.
+// Prints how a run ended.
 fn print(
     rt: &(impl Files + Print + Eprint),
     settings: Settings,
     run: Run,
     registers: &[u32; REGISTER_WORDS],
-) -> bool {
+) -> Result<(), Failure> {
     let mut text = [0u8; report::LONGEST];
     let length = report::write_report(run, registers, &mut text);
     write_out(rt, settings, &text[..length])
 }
 
 // Prints how many entries it looked at.
-fn print_looks(rt: &(impl Files + Print + Eprint), settings: Settings, looks: u64) {
+fn print_looks(
+    rt: &(impl Files + Print + Eprint),
+    settings: Settings,
+    looks: u64,
+) -> Result<(), Failure> {
     let mut text = [0u8; report::LOOKS_LONGEST];
     let length = report::write_looks(looks, &mut text);
-    write_out(rt, settings, &text[..length]);
+    write_out(rt, settings, &text[..length])
 }
 
 // Saves the machine where asked, and prints how the run ended: in this order, so that that is not printed of a run whose machine was to
@@ -63,20 +74,17 @@ fn finish(
     registers: &[u32; REGISTER_WORDS],
     memory: &[u8],
     run: Run,
-)
+) -> Result<(), Failure>
     requires { length memory.now ≤ memory_bytes }
 {
-    let machine = run.machine;
     if settings.save {
-        let saved = saving::save(rt, registers, memory, machine);
-        if !saved {
-            return;
-        }
+        saving::save(rt, registers, memory, run.machine)?;
     }
-    let printed = print(rt, settings, run, registers);
-    if printed & settings.looks {
-        print_looks(rt, settings, run.looks);
+    print(rt, settings, run, registers)?;
+    if settings.looks {
+        print_looks(rt, settings, run.looks)?;
     }
+    Ok(())
 }
 
 // Runs the program. Where a line of its trace is lost, that is the end.
@@ -87,16 +95,11 @@ fn run(
     registers: &mut [u32; REGISTER_WORDS],
     memory: &mut [u8],
     machine: Machine,
-)
+) -> Result<(), Failure>
     requires { length memory.old ≤ memory_bytes }
 {
-    let first = interpreter::run(program, registers, memory, machine, settings.budget);
-    let answer = first.answer;
-    if let RunAnswer::Refused(number) = answer {
-        refuse(rt, number);
-        return;
-    }
-    let traced = going_on::go_on(
+    let first = interpreter::run(program, registers, memory, machine, settings.budget)?;
+    let whole = going_on::go_on(
         rt,
         program,
         registers,
@@ -104,36 +107,35 @@ fn run(
         first,
         settings.rows,
         settings.rest,
-    );
-    if traced.printed {
-        let whole = traced.run;
-        finish(rt, settings, registers, memory, whole);
-    }
+    )?;
+    finish(rt, settings, registers, memory, whole)
 }
 
 // Starts a machine on a memory of zeros, and runs the program.
-fn start(rt: &(impl Files + Print + Eprint), settings: Settings, program: &[u32], memory: &mut [u8])
+fn start(
+    rt: &(impl Files + Print + Eprint),
+    settings: Settings,
+    program: &[u32],
+    memory: &mut [u8],
+) -> Result<(), Failure>
     requires { length memory.old ≤ memory_bytes }
 {
     let mut registers = [0u32; REGISTER_WORDS];
-    let started = interpreter::start(settings.mask, &mut registers);
-    let answer = started.answer;
-    let machine = started.machine;
-    match answer {
-        StartAnswer::Refused(number) => refuse(rt, number),
-        StartAnswer::Started => run(rt, settings, program, &mut registers, memory, machine),
-    }
+    let machine = interpreter::start(settings.mask, &mut registers)?;
+    run(rt, settings, program, &mut registers, memory, machine)
 }
 
-fn begin(rt: &(impl Files + Print + Eprint), settings: Settings, program: &[u32]) {
+fn begin(
+    rt: &(impl Files + Print + Eprint),
+    settings: Settings,
+    program: &[u32],
+) -> Result<(), Failure> {
     let size = settings.memory as usize;
-    let refused = answer::bad_memory(size);
-    if refused {
-        refuse(rt, 3);
-        return;
+    if answer::bad_memory(size) {
+        return Err(Failure::Refused(Refusal::Memory));
     }
     let mut memory = [0u8; MEMORY_BYTES];
-    start(rt, settings, program, &mut memory[..size]);
+    start(rt, settings, program, &mut memory[..size])
 }
 
 // Reads standard input, or the stream that the command opens.
@@ -142,8 +144,8 @@ fn read_one(
     standard: bool,
     failure: &[u8],
     buf: &mut [u8],
-) -> Filled
-    ensures { IsPrefixLen result.size buf.new }
+) -> Result<usize, Failed>
+    ensures { IsPrefixLen (size_of result) buf.new }
 {
     if standard {
         return read_stream(rt, &mut rt.reader(), failure, buf);
@@ -158,64 +160,49 @@ fn restore(
     program: &[u32],
     image: &[u8],
     memory: &mut [u8],
-)
+) -> Result<(), Failure>
     requires { length memory.old ≤ memory_bytes }
 {
     let mut registers = [0u32; REGISTER_WORDS];
-    let read = image::read(image, &mut registers, memory);
-    let answer = read.answer;
-    let machine = read.machine;
-    match answer {
-        ReadAnswer::Refused(number) => refuse(rt, number),
-        ReadAnswer::Restored => run(rt, settings, program, &mut registers, memory, machine),
-    }
+    let machine = image::read(image, &mut registers, memory)?;
+    run(rt, settings, program, &mut registers, memory, machine)
 }
 
-fn resume(rt: &(impl Input + Files + Print + Eprint), settings: Settings, program: &[u32]) {
+fn resume(
+    rt: &(impl Input + Files + Print + Eprint),
+    settings: Settings,
+    program: &[u32],
+) -> Result<(), Failure> {
     let mut image = [0u8; IMAGE_ROOM];
-    let filled = read_one(rt, settings.image_first, b"read the image", &mut image);
-    let length = filled.size;
-    if filled.failed {
-        return;
-    }
+    let standard = matches!(settings.origin, Origin::StandardInput);
+    let length = read_one(rt, standard, b"read the image", &mut image)?;
     let size = memory_of(length);
-    let refused = answer::bad_memory(size);
-    if refused {
-        refuse(rt, 9);
-        return;
+    if answer::bad_memory(size) {
+        return Err(Failure::Refused(Refusal::Length));
     }
     let mut memory = [0u8; MEMORY_BYTES];
-    restore(rt, settings, program, &image[..length], &mut memory[..size]);
-}
-
-fn go_on(rt: &(impl Input + Files + Print + Eprint), settings: Settings, program: &[u32]) {
-    if settings.resume {
-        resume(rt, settings, program);
-    } else {
-        begin(rt, settings, program);
-    }
+    restore(rt, settings, program, &image[..length], &mut memory[..size])
 }
 
 // Reads the program, and goes on with it.
-fn load(rt: &(impl Input + Files + Print + Eprint), settings: Settings) {
+fn load(rt: &(impl Input + Files + Print + Eprint), settings: Settings) -> Result<(), Failure> {
     let mut bytes = [0u8; INPUT_BYTES];
-    let filled = read_one(rt, !settings.image_first, b"read the program", &mut bytes);
-    let size = filled.size;
-    if filled.failed {
-        return;
-    }
+    let standard = !matches!(settings.origin, Origin::StandardInput);
+    let size = read_one(rt, standard, b"read the program", &mut bytes)?;
     let mut program = [0u32; PROGRAM_WORDS];
-    let count = program::words(&bytes[..size], &mut program);
-    if count == 0 {
-        refuse(rt, 1);
-        return;
+    let count = program::words(&bytes[..size], &mut program)?;
+    let program = &program[..count];
+    match settings.origin {
+        Origin::Started => begin(rt, settings, program),
+        Origin::SecondStream | Origin::StandardInput => resume(rt, settings, program),
     }
-    go_on(rt, settings, &program[..count]);
 }
 
 fn main(rt: HostRuntime) {
-    let settings = settings::read_settings(&rt);
-    if settings.given {
-        load(&rt, settings);
+    let Some(settings) = settings::read_settings(&rt) else {
+        return;
+    };
+    if let Err(Failure::Refused(refusal)) = load(&rt, settings) {
+        refuse(&rt, refusal.number());
     }
 }

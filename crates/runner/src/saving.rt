@@ -2,9 +2,9 @@
 ghost use Rattle.std.specs.Prelude.{◌≤◌, length};
 ghost use Rattle.answer.specs.Refusal.{memory_bytes};
 
+use crate::failure::{Failure, told};
 use answer::BLOCK_BYTES;
-use files::{refuse, write_numbered_synced};
-use image::WriteAnswer;
+use files::write_numbered_synced;
 use image_layout::{Form, Shape};
 use image_sizes::{LONGEST_IMAGE, image_size};
 use machine::Machine;
@@ -20,19 +20,18 @@ fn save_by(
     memory: &[u8],
     machine: Machine,
     image: &mut [u8],
-) -> bool {
-    let answer = image::write(registers, memory, machine, image);
-    match answer {
-        WriteAnswer::Refused(number) => {
-            refuse(rt, number);
-            false
-        }
-        WriteAnswer::Written => write_numbered_synced(rt, IMAGE_OUT, b"write the image", image),
-    }
+) -> Result<(), Failure> {
+    image::write(registers, memory, machine, image)?;
+    told(write_numbered_synced(rt, IMAGE_OUT, b"write the image", image))
 }
 
-// Saves the machine; answers whether that went well.
-pub fn save(rt: &(impl Files + Eprint), registers: &[u32], memory: &[u8], machine: Machine) -> bool
+// Saves the machine.
+pub fn save(
+    rt: &(impl Files + Eprint),
+    registers: &[u32],
+    memory: &[u8],
+    machine: Machine,
+) -> Result<(), Failure>
     requires { length memory.now ≤ memory_bytes }
 {
     let mut image = [0u8; LONGEST_IMAGE];

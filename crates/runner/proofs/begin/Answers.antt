@@ -8,10 +8,10 @@ use Rattle.runner.proofs.Memory.{part_small}
 use Rattle.runner.proofs.begin.Goals as goal
 
 pub slice_bounds-memory-end : goal.slice_bounds-memory-end
-slice_bounds-memory-end g c = memory_most _ (sym c.bad_memory-refused.ensures ∙ c.if-refused.false)
+slice_bounds-memory-end g c = memory_most _ (sym c.bad_memory.ensures ∙ c.if-bad_memory.false)
 
 pub slice_bounds-start-end : goal.slice_bounds-start-end
-slice_bounds-start-end g c = shown _ _ (memory_most _ (sym c.bad_memory-refused.ensures ∙ c.if-refused.false))
+slice_bounds-start-end g c = shown _ _ (memory_most _ (sym c.bad_memory.ensures ∙ c.if-bad_memory.false))
 
 pub start-requires : goal.start-requires
-start-requires g c = let n = c.args.settings.memory in let h = memory_most n (sym c.bad_memory-refused.ensures ∙ c.if-refused.false) in part_small n memory_bytes (replicate memory_bytes 0) h h
+start-requires g c = let n = c.args.settings.memory in let h = memory_most n (sym c.bad_memory.ensures ∙ c.if-bad_memory.false) in part_small n memory_bytes (replicate memory_bytes 0) h h

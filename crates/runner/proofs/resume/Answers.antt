@@ -8,10 +8,10 @@ use native.Mathlib.Omega.{arith}
 use Rattle.runner.proofs.resume.Goals as goal
 
 pub slice_bounds-memory-end : goal.slice_bounds-memory-end
-slice_bounds-memory-end g c = memory_most _ (sym c.bad_memory-refused.ensures ∙ c.if-refused.false)
+slice_bounds-memory-end g c = memory_most _ (sym c.bad_memory.ensures ∙ c.if-bad_memory.false)
 
 pub slice_bounds-restore-end-2 : goal.slice_bounds-restore-end-2
-slice_bounds-restore-end-2 g c = shown _ _ (memory_most _ (sym c.bad_memory-refused.ensures ∙ c.if-refused.false))
+slice_bounds-restore-end-2 g c = shown _ _ (memory_most _ (sym c.bad_memory.ensures ∙ c.if-bad_memory.false))
 
 pub restore-requires : goal.restore-requires
-restore-requires g c = let n = c.memory_of-size.result in let h = memory_most n (sym c.bad_memory-refused.ensures ∙ c.if-refused.false) in omega (arith, shown n (replicate memory_bytes 0) h, h)
+restore-requires g c = let n = c.memory_of-size.result in let h = memory_most n (sym c.bad_memory.ensures ∙ c.if-bad_memory.false) in omega (arith, shown n (replicate memory_bytes 0) h, h)
