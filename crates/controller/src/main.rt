@@ -8,7 +8,6 @@ ghost use Rattle.io.specs.Counts.{IsPrefixLen};
 
 use answer::{PROGRAM_WORDS, REGISTER_WORDS};
 use minute_lines::{Held, Line};
-use night::Kept;
 use program::INPUT_BYTES;
 use std::io;
 use std::rt::{Env, Files};
@@ -17,11 +16,10 @@ use std::rt::{Env, Files};
 fn start(rt: &(impl Input + Print + Eprint), program: &[u32]) {
     let mut registers = [0u32; REGISTER_WORDS];
     let mut memory = [0u8; serving::MEMORY];
-    let started = interpreter::start(255, &mut registers);
-    let machine = started.machine;
+    let machine = interpreter::start(255, &mut registers).unwrap();
     let held = Held {
         machine,
-        kept: Kept::Nothing,
+        kept: None,
         line: Line::Empty,
     };
     serving::serve(rt, program, &mut registers, &mut memory, held);
@@ -35,26 +33,25 @@ fn read_program(rt: &(impl Env + Files + Eprint), bytes: &mut [u8; INPUT_BYTES])
     let Ok(length) = rt.arg(1, &mut name) else {
         return 0;
     };
-    let filled = files::read_file(rt, &name[..length], bytes);
-    if filled.failed {
+    let Ok(size) = files::read_file(rt, &name[..length], bytes) else {
         return 0;
-    }
-    filled.size
+    };
+    size
 }
 
 fn main(rt: HostRuntime) {
     let mut bytes = [0u8; INPUT_BYTES];
     let size = read_program(&rt, &mut bytes);
     let mut program = [0u32; PROGRAM_WORDS];
-    let count = program::words(&bytes[..size], &mut program);
-    if count == 0 {
-        files::write_stream(
-            &rt,
-            &mut io::writer(&rt),
-            b"write standard output",
-            b"refused 1\n",
-        );
-        return;
+    match program::words(&bytes[..size], &mut program) {
+        Ok(count) => start(&rt, &program[..count]),
+        Err(_) => {
+            files::write_stream(
+                &rt,
+                &mut io::writer(&rt),
+                b"write standard output",
+                b"refused 1\n",
+            );
+        }
     }
-    start(&rt, &program[..count]);
 }

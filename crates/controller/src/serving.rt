@@ -10,18 +10,11 @@ pub const MEMORY: usize = 128;
 // The bytes of a read.
 const READ: usize = 4096;
 
-// What is held after some input, and whether to go on: not behind the last byte, nor where an answer could not be written.
-#[derive(Clone, Copy)]
-struct Served {
-    held: Held,
-    more: bool,
-}
-
 fn print(rt: &(impl Print + Eprint), text: &[u8]) -> bool {
     files::write_stream(rt, &mut io::writer(rt), b"write standard output", text)
 }
 
-// A byte of input, and the text that it calls for.
+// A byte of input, and the text that it calls for: what is held then, or nothing where that text could not be written.
 fn serve_byte(
     rt: &(impl Print + Eprint),
     program: &[u32],
@@ -29,16 +22,17 @@ fn serve_byte(
     memory: &mut [u8; MEMORY],
     held: Held,
     byte: u8,
-) -> Served {
+) -> Option<Held> {
     let mut out = [0u8; LONGEST];
     let step = minute_lines::take_byte(program, registers, memory, held, byte, &mut out);
-    let length = step.printed;
-    let held = step.held;
-    if length == 0 {
-        return Served { held, more: true };
+    if step.printed == 0 {
+        return Some(step.held);
     }
-    let more = print(rt, &out[..length]);
-    Served { held, more }
+    if print(rt, &out[..step.printed]) {
+        Some(step.held)
+    } else {
+        None
+    }
 }
 
 // The end of the input.
@@ -51,8 +45,7 @@ fn serve_end(
 ) {
     let mut out = [0u8; LONGEST];
     let step = minute_lines::take_end(program, registers, memory, held, &mut out);
-    let length = step.printed;
-    print(rt, &out[..length]);
+    print(rt, &out[..step.printed]);
 }
 
 fn serve_bytes(
@@ -62,20 +55,14 @@ fn serve_bytes(
     memory: &mut [u8; MEMORY],
     mut held: Held,
     bytes: &[u8],
-) -> Served {
-    let mut i = 0;
-    while i < bytes.len() {
-        let served = serve_byte(rt, program, registers, memory, held, bytes[i]);
-        held = served.held;
-        if !served.more {
-            return Served { held, more: false };
-        }
-        i += 1;
+) -> Option<Held> {
+    for byte in bytes {
+        held = serve_byte(rt, program, registers, memory, held, *byte)?;
     }
-    Served { held, more: true }
+    Some(held)
 }
 
-// One read.
+// One read: nothing is held behind the last byte, nor where one can't be read.
 fn serve_read<R: Read>(
     rt: &(impl Print + Eprint),
     input: &mut R,
@@ -83,22 +70,22 @@ fn serve_read<R: Read>(
     registers: &mut [u32; REGISTER_WORDS],
     memory: &mut [u8; MEMORY],
     held: Held,
-) -> Served {
+) -> Option<Held> {
     let mut buf = [0u8; READ];
     match input.read(&mut buf) {
         Ok(0) => {
             serve_end(rt, program, registers, memory, held);
-            Served { held, more: false }
+            None
         }
         Ok(n) => serve_bytes(rt, program, registers, memory, held, &buf[..n]),
         Err(error) => {
             files::fail(rt, b"read standard input", error);
-            Served { held, more: false }
+            None
         }
     }
 }
 
-// All of the input. A proved loop has to end, and nothing says that an input does: it counts down from a number that no night uses up.
+// All of the input. A proved loop has to end, and nothing says that an input does: it counts to a number that no night uses up.
 pub fn serve(
     rt: &(impl Input + Print + Eprint),
     program: &[u32],
@@ -107,13 +94,10 @@ pub fn serve(
     mut held: Held,
 ) {
     let mut input = rt.reader();
-    let mut reads = u64::MAX;
-    while reads > 0 {
-        let served = serve_read(rt, &mut input, program, registers, memory, held);
-        held = served.held;
-        if !served.more {
+    for _ in 0..u64::MAX {
+        let Some(next) = serve_read(rt, &mut input, program, registers, memory, held) else {
             return;
-        }
-        reads -= 1;
+        };
+        held = next;
     }
 }
