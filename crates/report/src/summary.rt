@@ -9,7 +9,8 @@ use interpreter::{Run, Stop};
 use text::{put_decimal, put_text};
 use thread_lines::put_threads;
 
-// What is counted, and the end of the first line.
+// What is counted, and the end of the first line. Apart from thread_lines' line of turns: one function of both texts would be no plainer,
+// since each contract names its own text.
 #[tactic(auto, unfolding(crate::specs::Report::counted, isa::specs::Text::bytes))]
 fn put_counted(out: &mut [u8], at: usize, issues: u32) -> usize
     ensures { wrote result out.new ≡ puts (wrote at out.old) (counted issues) }
