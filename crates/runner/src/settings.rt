@@ -2,8 +2,8 @@
 use files::complain;
 use std::rt::Env;
 
-// Where the machine comes from, by RESUME: it is started (0); or stream 3 has its image (1); or standard input has it (2), and then stream 3
-// has the program.
+// Where the machine comes from, by RESUME: it is started (0); or stream 3 has its image (1); or standard input has it (2), and then stream
+// 3 has the program.
 #[derive(Clone, Copy, Debug, PartialEq, Eq)]
 pub enum Origin {
     Started,

@@ -101,8 +101,8 @@ fn put_turns(out: &mut [u8], at: usize, turns: u32) -> usize
     put_unit(out, at, turns)
 }
 
-// The line of a thread; none where it is off. A buffer and a place go together, as crate text has them: a struct of a lent buffer would be no
-// plainer, since every contract here is of the buffer before and after.
+// The line of a thread; none where it is off. A buffer and a place go together, as crate text has them: a struct of a lent buffer would be
+// no plainer, since every contract here is of the buffer before and after.
 #[tactic(auto, unfolding(crate::specs::Lines::line_parts, isa::specs::Text::bytes))]
 pub fn put_line(out: &mut [u8], at: usize, thread: u32, entry: Thread, pc: u32) -> usize
     ensures { wrote result out.new ≡ puts_all (wrote at out.old) (line_parts thread entry.status pc entry.turns) }
