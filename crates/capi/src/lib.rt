@@ -7,4 +7,5 @@ mod numbers;
 mod runs;
 
 pub use images::{korvammel_image_read, korvammel_image_write, korvammel_image_write_old};
+pub use numbers::ending;
 pub use runs::{korvammel_run, korvammel_start};

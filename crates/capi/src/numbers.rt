@@ -18,7 +18,7 @@ pub fn number<T>(answer: &Result<T, Refusal>) -> u32
     }
 }
 
-// How a run that is not refused ended.
+// How a run that is not refused ended: the numbers of korvammel.h.
 pub fn ending(stop: Stop) -> u32
     ensures { result ≡ ending_of (given (stop_of stop)) }
 {

@@ -1,27 +1,14 @@
 // The traced run, from the machine record and into it.
 ghost use Rattle.std.specs.Prelude.{◌≡◌};
-ghost use Rattle.answer.specs.Answer.{given};
-ghost use Rattle.capi.specs.Answer.{ending_of};
 ghost use Rattle.capi.specs.Runs.{ran, called};
-ghost use Rattle.interpreter.specs.Answer.{ending_of as stop_of};
 ghost use Rattle.capi_trace.specs.Calls.{traced_ran, run_traced_call};
 
 use crate::filling::fill;
 use crate::numbers::ROW_NUMBERS;
 use answer::{Refusal, lengths_verdict};
+use capi::ending;
 use image::RECORD_LENGTH;
-use interpreter::{Run, Stop};
-
-// How a run that is not refused ended, as `korvammel_run` says it.
-fn ending(stop: Stop) -> u32
-    ensures { result ≡ ending_of (given (stop_of stop)) }
-{
-    match stop {
-        Stop::Stopped => 1,
-        Stop::Stuck => 2,
-        Stop::Spent => 3,
-    }
-}
+use interpreter::Run;
 
 // Runs a program from a machine record, and puts a row for each issue: the lengths are judged before the record's bytes.
 fn run_from(
