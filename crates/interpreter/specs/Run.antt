@@ -5,10 +5,10 @@ use Rattle.answer.specs.Answer.{Answer, given, refused}
 use Rattle.machine.specs.State.{State, state}
 use Rattle.interpreter.specs.Answer.{Ending, ending_of}
 use Rattle.interpreter.specs.Choosing.{Issue, issues, reached, ending_at, look, looks_for}
-use Rattle.answer.specs.declared.refusal.Refusal.{Refusal}
+pub use Rattle.answer.specs.declared.refusal.Refusal.{Refusal}
 use Rattle.answer.specs.Refusal.{row_of, refused_or}
 use Rattle.interpreter.specs.Refusal.{run_number}
-use Rattle.interpreter.specs.Types.{Machine, Run}
+pub use Rattle.interpreter.specs.Types.{Machine, Run}
 
 -- the number that the table gives a run of a program from a state
 abbrev pub number : List ℕ → State → Option ℕ

@@ -9,12 +9,11 @@ use lib.ListN.{length}
 use Rattle.std.specs.Prelude.{Result, Ok, Err, Some, IsOk}
 use Rattle.answer.specs.Answer.{given, refused}
 use Rattle.answer.specs.Refusal.{row_of}
-use Rattle.answer.specs.declared.refusal.Refusal.{Refusal}
 use Rattle.machine.specs.State.{State, state}
 use Rattle.interpreter.proofs.Claims.{runs-report, answers_number, no-budget}
 use Rattle.interpreter.specs.Claims.{number_in}
 use Rattle.interpreter.specs.Demand.{Reported}
-use Rattle.interpreter.specs.Run.{outcome, number, run_reached, run}
+use Rattle.interpreter.specs.Run.{outcome, number, run_reached, run, Refusal}
 use Rattle.interpreter.specs.declared.outcome.Run.{Run}
 use Rattle.night.specs.Answer.{report}
 use Rattle.night.specs.Bytes.{with_reading, relays_in}

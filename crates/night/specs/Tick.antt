@@ -1,12 +1,10 @@
 -- What a call hands back and leaves (document 02, T-14).
 use Rattle.std.specs.Prelude.{ℕ, Bool, List, [], Result, Ok, Err, Some}
 use Rattle.answer.specs.Answer.{Answer, given, refused}
-use Rattle.answer.specs.declared.refusal.Refusal.{Refusal}
 use Rattle.answer.specs.Refusal.{row_of, refused_or}
-use Rattle.machine.specs.declared.record.Machine.{Machine}
 use Rattle.machine.specs.State.{State, state}
 use Rattle.interpreter.specs.Demand.{Issue}
-use Rattle.interpreter.specs.Run.{run_issues, run_reached}
+use Rattle.interpreter.specs.Run.{run_issues, run_reached, Machine, Refusal}
 use Rattle.night.specs.Answer.{Report, report}
 use Rattle.night.specs.Bytes.{with_reading, relays_in}
 use Rattle.night.specs.Clock.{skipped}
