@@ -112,7 +112,12 @@ row_of V.ShortBuffer = short-buffer
 row_of V.Minute = bad-minute
 row_of V.SmallMemory = small-memory
 
--- the number of a refused call
+-- the number of a refused call, by what numbers its refusals
+abbrev pub numbered : {E : Type 0} → (E → ℕ) → Result Unit E → Option ℕ
+numbered number (Ok _) = none
+numbered number (Err refusal) = some (number refusal)
+
+-- the number of a refused call in the table
 abbrev pub number_of : Result Unit Refusal → Option ℕ
 number_of (Ok _) = none
 number_of (Err refusal) = some (row_of refusal)

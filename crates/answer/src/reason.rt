@@ -14,7 +14,7 @@ pub enum Reason {
 }
 
 impl Reason {
-    // Its number.
+    // Its number, by a match as a refusal's.
     pub fn number(self) -> u8
         ensures { result ≡ reason_of self }
     {

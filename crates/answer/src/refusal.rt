@@ -1,10 +1,8 @@
 // What a call is refused for: the rows of document 01's table, and the tests that find one.
-ghost use Rattle.std.specs.Prelude.{◌≤◌, ◌≡◌};
+ghost use Rattle.std.specs.Prelude.{ℕ, ◌≤◌, ◌≡◌};
 ghost use Rattle.std.proofs.Math.Option.{some};
-ghost use Rattle.answer.specs.Refusal.{memory_bytes, bad_program, bad_registers, bad_memory, bad_mask, bad_length, row_of, number_of, refused_or, lengths_number, sizes_number};
-
-use std::error::Error;
-use std::fmt;
+ghost use Rattle.answer.specs.Refusal.{memory_bytes, bad_program, bad_registers, bad_memory, bad_mask, bad_length, row_of};
+ghost use Rattle.answer.specs.Refusal.{number_of, numbered, refused_or, lengths_number, sizes_number};
 
 // A row of the table "Numbers given back". The table's number of each is `number`.
 #[derive(Clone, Copy, Debug, PartialEq, Eq)]
@@ -32,7 +30,7 @@ pub enum Refusal {
 }
 
 impl Refusal {
-    // Its number.
+    // Its number. A match and no numbers at the variants, so that a wrong program can give two rows one number.
     pub fn number(self) -> u8
         ensures { result ≡ row_of self }
     {
@@ -60,14 +58,6 @@ impl Refusal {
         }
     }
 }
-
-impl fmt::Display for Refusal {
-    fn fmt<W: fmt::Write>(&self, f: &mut fmt::Formatter<W>) -> fmt::Result {
-        write!(f, "refused: {}", self.number())
-    }
-}
-
-impl Error for Refusal {}
 
 // A refusal, and the line of a text that it names; line 0 where it names none.
 #[derive(Clone, Copy, Debug, PartialEq, Eq)]
@@ -114,9 +104,9 @@ pub fn bad_mask(mask: u32) -> bool
     (mask == 0) | (255 < mask)
 }
 
-// The first of two verdicts that refuses.
-pub fn first_refusal(first: Result<(), Refusal>, then: Result<(), Refusal>) -> Result<(), Refusal>
-    ensures { number_of result ≡ refused_or (number_of first) some (number_of then) }
+// The first of two verdicts that refuses, whatever they refuse with: by each way to number it, its number is the first that there is.
+pub fn first_refusal<E: Copy + Drop>(first: Result<(), E>, then: Result<(), E>) -> Result<(), E>
+    ensures { (number : E → ℕ) → numbered number result ≡ refused_or (numbered number first) some (numbered number then) }
 {
     first.and(then)
 }

@@ -75,7 +75,8 @@ fn assemble_labelled(source: &[u8], words: &mut [u32]) -> Result<usize, RefusedL
     assemble_lines(labels, counts.words, words)
 }
 
-// A source of a length that is allowed.
+// A source of a length that is allowed. The length stands in the contracts and not in `Labels`: expressions and statements take labels of any
+// source.
 fn assemble_texts(source: &[u8], words: &mut [u32]) -> Result<usize, RefusedLine>
     requires { length source.now ≤ 65536 }
     ensures { outcome_of result words.new

@@ -138,7 +138,7 @@ pub fn first_refused(labels: Labels, pass: Pass) -> Result<(), RefusedLine>
     let mut before = 0;
     let mut n = 0;
     let mut words = 0;
-    // By the place where a line begins, here and in the other walks: labels are held by their places.
+    // By the place where a line begins, as `fill_labels` goes, which holds labels by it.
     while start <= source.len() {
         let end = line_end(source, start);
         let text = &source[start..end];

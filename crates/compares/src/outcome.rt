@@ -21,7 +21,8 @@ struct Outcomes {
     above: u32,
 }
 
-fn flags(yes: bool) -> u32
+// An answer in the bits of all lanes.
+pub fn flags(yes: bool) -> u32
     ensures { result ≡ flags_of yes }
 {
     if yes { 65535 } else { 0 }
@@ -110,7 +111,8 @@ fn float_answer(below: bool, equal: bool, above: bool, unordered: bool, x: u32, 
 }
 
 // The columns go by value: where they are known, the compiler makes one instruction of the three tests. Tried: the float unit's own six
-// tests, one for each arm; twice as fast on some, but 2.7 kB larger, for which a board has no room (tests/board).
+// tests, one for each arm; twice as fast on some, but 2.7 kB larger: the calls would pass the 49,000 bytes of
+// tests/board.
 fn each_float(
     below: bool,
     equal: bool,

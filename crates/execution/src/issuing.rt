@@ -39,7 +39,8 @@ fn reach_barrier(
     met.machine
 }
 
-// The record after an issue, and whether a status in it was set: by a trap, an end or a barrier.
+// The record after an issue, and whether a status in it was set: by a trap, an end or a barrier. A flag beside the record, which is there in
+// both cases: an enum that holds it twice is no plainer.
 #[derive(Clone, Copy, Debug, PartialEq, Eq)]
 pub struct Issued {
     pub machine: Machine,

@@ -6,7 +6,8 @@ ghost use Rattle.vector.specs.Lanes.{splatted};
 
 use crate::registers;
 
-// A scalar's word, or the number of a vector register: its lanes are read where they are used.
+// A scalar's word, or the number of a vector register: its lanes are read where they are used. That the number is below 64 stands in the
+// contracts, as `Named`: the definitions speak of any.
 #[derive(Clone, Copy, Debug, PartialEq, Eq)]
 pub enum Source {
     Scalar(u32),

@@ -10,7 +10,8 @@ ghost use Rattle.expression.specs.Value.{value_term, label_value, bounded, bias}
 use crate::value::{Value, ZERO, bound};
 use token::{is_label, number_of, past_run};
 
-// The labels of a source: the source, and for each label the place of its name there and its address, in turn.
+// The labels of a source: the source, and for each label the place of its name there and its address. Two numbers in turn and no pairs: the
+// definition `entries` reads a table so.
 #[derive(Clone, Copy, Debug, PartialEq, Eq)]
 pub struct Labels<'a> {
     pub source: &'a [u8],

@@ -1,7 +1,7 @@
 // Words on vectors. Those that write lanes are tried where every lane is on, and left to the slow path where one is off.
 ghost use Rattle.std.specs.Prelude.{◌≡◌, ◌+◌, ◌/◌, ◌%◌, ◌^◌, ◌<◌, ◌≤◌, true, false, MatchOption, ◌⊎◌};
 ghost use Rattle.alu.specs.Binary.{is_float};
-ghost use Rattle.compares.specs.Outcome.{flags_of, answers_of};
+ghost use Rattle.compares.specs.Outcome.{answers_of};
 ghost use Rattle.execution.specs.Registers.{vector, with_lanes_on, with_program_counter, InRegisters};
 ghost use Rattle.isa.specs.Table.{row_r, row_m};
 ghost use Rattle.machine.specs.State.{program_counter_register};
@@ -145,15 +145,9 @@ fn compare_at(opcode: u8) -> Option<CompareOp>
     }
 }
 
-// An answer in the bits of all lanes.
-fn flags(yes: bool) -> u32
-    ensures { result ≡ flags_of yes }
-{
-    if yes { 65535 } else { 0 }
-}
-
 // The answers of all lanes of vectors i and k, whose lanes it loads for itself. It is inlined where the compare is known: only then the
-// compiler makes vector instructions of the loop. By `compares::collect`, with a closure for each compare, it took 3 to 17 instructions more.
+// compiler makes vector instructions of the loop. By `compares::collect`, with a closure for each compare, it took 3 to 17 instructions
+// more.
 #[inline(always)]
 fn holding(regs: &[u32], t: usize, op: CompareOp, i: u32, k: u32) -> u32
     requires { InRegisters regs.now t × (i < 64) × (k < 64) }
@@ -163,11 +157,12 @@ fn holding(regs: &[u32], t: usize, op: CompareOp, i: u32, k: u32) -> u32
     let y = execution::vector(regs, t, k);
     let mut r: u32 = 0;
     for (j, a) in x.iter().enumerate() {
-        r |= flags(ordering::compare(op, *a, y[j])) & (1 << j);
+        r |= compares::flags(ordering::compare(op, *a, y[j])) & (1 << j);
     }
     r
 }
 
+// One for each compare that the processor has: `holding`, inlined, would stand ten times in `answers`.
 fn equal(regs: &[u32], t: usize, i: u32, k: u32) -> u32
     requires { InRegisters regs.now t × (i < 64) × (k < 64) }
     ensures { result ≡ answers_of Eq (vector regs.now t i) (vector regs.now t k) }

@@ -1,4 +1,5 @@
-// Words and bytes moved between lent slices.
+// Words and bytes moved between lent slices. A buffer and a place go together, here and in what stands on this: `Grown` says of the whole
+// buffer what stands before and behind, which a part of it can't; a struct of both would have to promise that it is still the same buffer.
 ghost use Rattle.std.specs.Prelude.{◌+◌, ◌*◌, ◌≤◌, ◌≡◌, length, take, drop};
 ghost use Rattle.image_layout.specs.Join.{Grown};
 ghost use Rattle.little_endian.specs.Numbers.{number_at, number_bytes, bytes_of, words_of};
@@ -36,7 +37,7 @@ pub fn put_words(registers: &[u32], from: usize, n: usize, buffer: &mut [u8], at
     }
 }
 
-// The word at a place.
+// The word at a place. Beside little_endian's, which reads zeros past the end: this one asks for four bytes.
 pub fn word_at(image: &[u8], at: usize) -> u32
     requires { at + 4 ≤ length image.now }
     ensures { result ≡ number_at 4 image.now at }
@@ -70,8 +71,8 @@ pub fn take_words(image: &[u8], at: usize, n: usize, registers: &mut [u32], from
     }
 }
 
-// n times sixteen bytes taken from a place, and stored from a place on. They have a copy of their own, so that they move as one: between
-// two slices they would first be compared for overlap (docs/SPEED.md).
+// n times sixteen bytes taken from a place, and stored from a place on, by number. They have a copy of their own, so that they move as one:
+// between two slices they would first be compared for overlap (docs/SPEED.md).
 pub fn copy_sixteens(source: &[u8], from: usize, n: usize, target: &mut [u8], at: usize)
     requires { (from + 16 * n ≤ length source.now) × (at + 16 * n ≤ length target.old) }
     ensures { Grown target.old target.new at (at + 16 * n) (take (16 * n) (drop from source.now)) }

@@ -51,7 +51,8 @@ fn four_stand(four: [u8; 4], image: &[u8], at: usize) -> bool
     word_at(image, at) == u32::from_le_bytes(four)
 }
 
-// Whether record i of a row opens so at a place.
+// Whether record i of a row opens so at a place. Beside image_layout's: where there are four bytes they are compared as one word, for speed
+// (docs/SPEED.md).
 fn opens_so(row: RecordRow, i: usize, image: &[u8], at: usize) -> bool
     requires { Numbered row.places i × (at + head_length row.places ≤ length image.now) }
     ensures { result ≡ stands_at (head_of row i) image.now at }

@@ -1,4 +1,4 @@
-// A machine is read from an image.
+// A machine is read from an image. Shape and image go one by one: contracts speak of each by itself.
 ghost use Rattle.std.specs.Prelude.{◌+◌, ◌*◌, ◌≤◌, ◌≡◌, length};
 ghost use Rattle.answer.specs.Refusal.{register_words};
 ghost use Rattle.image_layout.specs.Join.{Grown};
@@ -13,8 +13,8 @@ use answer::{Refusal, sizes_verdict};
 use image_layout::{KINDS, Kind, Shape, first_body, fixed_part, form_of, record_size, row_of};
 use machine::Machine;
 
-// The words of every record of a kind, n times four in each, stored from a place on. By number: records and their words lie different
-// distances apart, and a zip of both is no plainer.
+// The words of every record of a kind, n times four in each, stored from a place on. Two places go on by different steps, and a zip of
+// chunks of both is no plainer.
 fn take_bodies(shape: Shape, kind: Kind, n: usize, image: &[u8], registers: &mut [u32], from: usize)
     requires { (start_of shape kinds ≤ length image.now) × ((row_of shape kind).size ≡ 16 * n) × (from + 4 * n * (row_of shape kind).count ≤ length registers.old) }
     ensures { Grown registers.old registers.new from (from + 4 * n * (row_of shape kind).count) (words_in shape image.now kind (4 * n)) }
@@ -39,7 +39,7 @@ fn take_registers(shape: Shape, image: &[u8], registers: &mut [u32])
     take_bodies(shape, Kind::Vr, 4, image, registers, 512);
 }
 
-// The memory. By number, as above.
+// The memory. By places, as above.
 fn take_memory(shape: Shape, image: &[u8], memory: &mut [u8])
     requires { (start_of shape kinds ≤ length image.now) × (length memory.old ≡ 64 * shape.blocks) }
     ensures { memory.new ≡ memory_in shape image.now }

@@ -39,7 +39,7 @@ fn put_fields(form: Form, fields: ThreadFields, buffer: &mut [u8], at: usize) ->
     }
 }
 
-// A machine to save, and the shape of its image.
+// A machine to save, and the shape of its image. That they suit is no invariant: `write_record` makes one with no registers and no memory.
 #[derive(Clone, Copy)]
 pub struct Saved<'a> {
     pub shape: Shape,

@@ -4,7 +4,7 @@ ghost use Rattle.image_layout.specs.Layout.{places_of, places_length, head_lengt
 
 use crate::layout::{Places, RecordRow, head_length};
 
-// Whether the place numbers of record i stand at a place.
+// Whether the place numbers of record i stand at a place. By division: the definition `places_of` says the two bytes of a number so.
 fn places_stand(places: Places, i: usize, image: &[u8], at: usize) -> bool
     requires { at + places_length places ≤ length image.now }
     ensures { result ≡ stands_at (places_of places i) image.now at }

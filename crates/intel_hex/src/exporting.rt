@@ -33,7 +33,7 @@ fn program_byte(words: &[u32], k: usize) -> u32
     words[k / 4] / POWERS[k % 4] % 256
 }
 
-// The sum of bytes of a program, modulo 256, behind a sum.
+// The sum of bytes of a program, modulo 256, behind a sum. By number, here and below: a byte is found in its word by it.
 fn sum_from(words: &[u32], from: usize, n: usize, sum: u32) -> u32
     requires { (from + n ≤ 4 * length words.now) × (sum < 1024) }
     ensures { result ≡ (sum + total (take n (drop from (program_bytes words.now)))) % 256 }

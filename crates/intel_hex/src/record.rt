@@ -53,6 +53,7 @@ fn fields(digits: &[u8], sum: u32) -> Option<Heading>
     if sum != 0 {
         return None;
     }
+    // by hand: where a digit is none, `byte_at` is no byte
     let address = 256 * byte_at(digits, 1) + byte_at(digits, 2);
     let kind = byte_at(digits, 3);
     if n != 2 {

@@ -14,7 +14,8 @@ pub fn line_feed(text: &[u8]) -> Option<usize>
     text.iter().position(|&c| c == b'\n')
 }
 
-// The upper half of addresses, the end of the last data record, and whether the end record was there.
+// The upper half of addresses, the end of the last data record, and whether the end record was there: a flag beside the place, since a line
+// behind the end is refused with a number of its own, and the length that was reached is still asked for.
 #[derive(Clone, Copy)]
 pub struct Cursor {
     pub upper: u32,

@@ -16,7 +16,7 @@ fn put_at(words: &mut [u32], a: usize, b: u32)
     words[a / 4] = old % p + b * p;
 }
 
-// Puts zero bytes from an address to another.
+// Puts zero bytes from an address to another, byte by byte: the gap may begin and end within a word.
 fn fill(words: &mut [u32], from: usize, to: usize)
     requires { (from ≤ to) × (to ≤ 4 * length words.old) }
     ensures { words.new ≡ store_all words.old from (replicate (to - from) 0) }
@@ -26,7 +26,7 @@ fn fill(words: &mut [u32], from: usize, to: usize)
     }
 }
 
-// Puts the data bytes that digits write behind a record's first four bytes.
+// Puts the data bytes that digits write behind a record's first four bytes. By number: it is a byte's place in the line and in the words.
 fn store_data(digits: &[u8], n: usize, words: &mut [u32], from: usize)
     requires { (from + n ≤ 4 * length words.old) × (n + n + 10 ≤ length digits.now) }
     ensures { words.new ≡ store_all words.old from (pair_bytes digits.now 4 n) }
@@ -36,7 +36,7 @@ fn store_data(digits: &[u8], n: usize, words: &mut [u32], from: usize)
     }
 }
 
-// The upper half of addresses, and the end of the last data record.
+// The upper half of addresses, and the end of the last data record: what storing needs of a `Cursor`.
 #[derive(Clone, Copy)]
 pub struct Place {
     pub upper: u32,

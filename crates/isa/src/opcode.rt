@@ -123,7 +123,7 @@ pub fn of_m(opcode: u8) -> Option<MemoryOp>
 }
 
 // The opcode of each operation. Matches, and not numbers at the variants: `Operation` and `MemoryOp` hold others, to which Rust gives no
-// number, and so both directions of a table stand side by side.
+// number; the edit `bnez_opcode_of_beqz` gives two of J one number, which variants can't have; the rest stand beside these.
 pub fn r_opcode(op: Operation) -> u8
     ensures { result ≡ (row_r op).opcode }
 {

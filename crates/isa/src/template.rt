@@ -7,7 +7,8 @@ use crate::instruction::Instruction;
 use crate::opcode::{of_c, of_j, of_m, of_movei, of_r};
 use crate::rule::has_immediate;
 
-// The instruction of a format, by its number from 0 for R to 5 for M, and an opcode.
+// The instruction of a format, by its number from 0 for R to 5 for M, and an opcode. A number, as in the rows of `names`: the edit
+// `memory_as_format_6` gives one that no enum of six has.
 pub fn template_of(format: u8, opcode: u8) -> Option<Instruction>
     ensures { found result ≡ template_at format opcode }
 {

@@ -66,6 +66,7 @@ pub fn list(input: &[u8], out: &mut [u8; LONGEST]) -> usize
     }
     let count = input.len() / 4;
     let mut at = put_header(out, count as u32);
+    // by number: it is the word's address
     for k in 0..count {
         at = put_line(out, at, (4 * k) as u32, word_at(input, 4 * k));
     }

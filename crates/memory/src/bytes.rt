@@ -1,4 +1,4 @@
-// Numbers in bytes, the lowest byte first. A function for each size: each is the library's method of its own type, and a size as a const
+// Numbers in bytes, the lowest byte first. A function for each size: most are the library's method of its own type, and a size as a const
 // parameter would need a loop.
 ghost use Rattle.std.specs.Prelude.{◌≡◌, ◌+◌, ◌≤◌, ◌<◌, ◌^◌, length, get_or};
 ghost use Rattle.little_endian.specs.Numbers.{number_at, with_number};
@@ -42,6 +42,7 @@ pub fn write16(memory: &mut [u8], a: usize, w: u32)
     memory[a..a + 2].copy_from_slice(&((w % 65536) as u16).to_le_bytes());
 }
 
+// In two halves: of four bytes at once the search did not close.
 pub fn write32(memory: &mut [u8], a: usize, w: u32)
     requires { a + 4 ≤ length memory.old }
     ensures { memory.new ≡ with_number 4 memory.old a w }

@@ -5,14 +5,16 @@ ghost use Rattle.names.specs.Rows.{rows, named};
 
 use isa::Instruction;
 
-// A name: its bytes from the front, then zeros. Not a `&str`: I's names are made here with a letter more, and the library has no heap.
+// A name: its bytes from the front, then zeros. No text type: `korvammel_name` hands on the zeros behind the name, and docs/DECISIONS.md
+// promises 16 bytes and a count.
 #[derive(Clone, Copy, Debug, PartialEq, Eq)]
 pub struct Name {
     pub bytes: [u8; 16],
     pub len: usize,
 }
 
-// A row of the table: the number of the format, the opcode, and the name's length and bytes.
+// A row of the table: the number of the format, the opcode, and the name's length and bytes. By places: sixty-one rows with four names
+// each are no plainer.
 #[derive(Clone, Copy, Debug, PartialEq, Eq)]
 pub struct NameRow(pub u8, pub u8, pub usize, pub [u8; 16]);
 

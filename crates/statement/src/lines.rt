@@ -32,10 +32,7 @@ pub fn up_to(text: &[u8], c: u8) -> &[u8]
 fn blank_at(line: &[u8], at: usize) -> bool
     ensures { result ≡ is_blank (get_or line.now at 0) }
 {
-    match line.get(at) {
-        Some(c) => is_blank(*c),
-        None => false,
-    }
+    line.get(at).is_some_and(|c| is_blank(*c))
 }
 
 // A line that is a label with its colon, if nothing stands behind that.

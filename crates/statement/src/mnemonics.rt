@@ -10,6 +10,8 @@ ghost use Rattle.statement.specs.Rows.{row_template, row_name, tried as Rows·tr
 use isa::{Instruction, template_of};
 use names::{NameRow, table};
 
+// With a letter behind the name or without: two passes by a flag, since `in_rows` of the definitions goes by the same one.
+
 // The instruction of a row: of I, where the row is one of R and I has words of its operation, or of the row's own format.
 fn template_in(immediate: bool, row: NameRow) -> Option<Instruction>
     ensures { found result ≡ row_template immediate row }

@@ -2,7 +2,8 @@
 ghost use Rattle.std.specs.Prelude.{◌≡◌};
 ghost use Rattle.thread_entry.specs.Entry.{entry_of, many_more};
 
-// Trapped carries a reason; Waiting carries a barrier id and a count.
+// Trapped carries a reason, a number and no `Reason`: an image may hold any, and `well_formed` judges such a record. Waiting carries a
+// barrier id and a count.
 #[derive(Clone, Copy, Debug, PartialEq, Eq)]
 pub enum Status {
     Idle,

@@ -5,7 +5,8 @@ ghost use Rattle.token.specs.Scan.{token_from, place_past};
 
 use crate::byte::{in_word, is_blank};
 
-// A token: a word from its first byte to behind its last, or a mark and the place behind it.
+// A token: a word from its first byte to behind its last, or a mark and the place behind it. By places in the line and not by its rest, here
+// and in all that reads tokens: a label is held by its place.
 #[derive(Clone, Copy, Debug, PartialEq, Eq)]
 pub enum Token {
     End,
