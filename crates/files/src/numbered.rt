@@ -43,7 +43,8 @@ pub fn write_numbered(
     }
 }
 
-// Writes to such a stream, and waits until the bytes have reached their device.
+// Writes to such a stream, and waits until the bytes have reached their device. Beside the one above: they differ in one call, and a closure
+// over it would name the type of the opened file.
 pub fn write_numbered_synced(
     rt: &(impl Files + Eprint),
     name: &str,

@@ -1,4 +1,5 @@
 // Export: a program's bytes as records.
+// A buffer and a place go together, as in crate text.
 ghost use Rattle.std.specs.Prelude.{[], ◌∷◌, ◌++◌, ◌≡◌, ◌+◌, ◌*◌, ◌/◌, ◌%◌, ◌≤◌, ◌<◌, length, get_or, take, drop, ◌⊎◌};
 ghost use Rattle.answer.specs.Refusal.{program_words};
 ghost use Rattle.text.specs.Buffer.{wrote, writes};

@@ -1,4 +1,5 @@
 // The listing: header, lines, and the refusal.
+// A buffer and a place go together, as in crate text.
 ghost use Rattle.std.specs.Prelude.{◌++◌, ◌≡◌, ◌+◌, ◌≤◌, ◌<◌, length};
 ghost use Rattle.isa.specs.Text.{bytes};
 ghost use Rattle.text.specs.Buffer.{wrote, writes};

@@ -1,4 +1,5 @@
 // The whole text: how the run ended, then the lines of the threads.
+// A buffer and a place go together, as in crate text.
 ghost use Rattle.std.specs.Prelude.{◌≡◌};
 ghost use Rattle.text.specs.Buffer.{wrote, puts, writes};
 ghost use Rattle.text.specs.Parts.{puts_all};

@@ -1,4 +1,5 @@
 // The line of a row: the issue's number, the thread, the address, the word and its name, and the thread's status after it.
+// A buffer and a place go together, as in crate text.
 ghost use Rattle.std.specs.Prelude.{◌∷◌, [], ◌≡◌};
 ghost use Rattle.isa.specs.Text.{bytes};
 ghost use Rattle.listing.specs.Listing.{label};
