@@ -54,7 +54,8 @@ fn fill_page(
     trace::continued(so_far, page.run)
 }
 
-// Runs a program with a budget that the list has room for, and puts the numbers of its rows.
+// Runs a program with a budget that the list has room for, and puts the numbers of its rows. By pages: how many there are is known when the
+// run ends.
 pub fn fill(
     program: &[u32],
     registers: &mut [u32],

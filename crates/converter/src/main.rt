@@ -78,6 +78,7 @@ fn convert(rt: &(impl Files + Print + Eprint), settings: Settings, image: &[u8],
     }
 }
 
+// Reads an image and goes on with it: as the runner does, but with the refusals said here.
 fn load(rt: &(impl Input + Files + Print + Eprint), settings: Settings) {
     let mut image = [0u8; IMAGE_ROOM];
     let Ok(length) = read_stream(rt, &mut rt.reader(), b"read the image", &mut image) else {
@@ -91,7 +92,7 @@ fn load(rt: &(impl Input + Files + Print + Eprint), settings: Settings) {
     convert(rt, settings, &image[..length], &mut memory[..size]);
 }
 
-// The number that argument i gives, if it gives one.
+// The number that argument i gives, if it gives one. As the runner's: programs are no libraries of one another.
 fn number_at(rt: &impl Env, i: usize) -> Option<u32> {
     let mut text = [0u8; 4096];
     let length = rt.arg(i, &mut text).ok()?;

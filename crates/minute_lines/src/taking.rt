@@ -1,4 +1,5 @@
 // The program between its reads and its writes: a byte of input taken, and the text that it calls for.
+// Program, registers and memory go one by one, as `night::tick` takes them.
 ghost use Rattle.std.specs.Prelude.{◌≡◌};
 ghost use Rattle.machine.specs.State.{state};
 ghost use Rattle.night.specs.Tick.{outcome};

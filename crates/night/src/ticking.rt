@@ -1,4 +1,4 @@
-// A call of the night box: one local minute.
+// A call of the night box: one local minute. Program, registers and memory go one by one, as `interpreter::run` takes them.
 ghost use Rattle.std.specs.Prelude.{◌≡◌};
 ghost use Rattle.std.proofs.Math.Option.{none};
 ghost use Rattle.machine.specs.State.{state};

@@ -23,7 +23,8 @@ fn print_page(
     ))
 }
 
-// Goes on by so many issues, and prints a line for each, page by page: as long as a thread is running, and no line was lost.
+// Goes on by so many issues, and prints a line for each, page by page, how many of which is known when the run ends: as long as a thread is
+// running, and no line was lost.
 fn print_rows(
     rt: &(impl Print + Eprint),
     program: &[u32],

@@ -67,7 +67,8 @@ fn print_looks(
 }
 
 // Saves the machine where asked, and prints how the run ended: in this order, so that that is not printed of a run whose machine was to
-// be saved and was not.
+// be saved and was not. The memory's length stands in the contracts, here and below: it is lent, and a struct of it would be opened at
+// each call.
 fn finish(
     rt: &(impl Files + Print + Eprint),
     settings: Settings,
@@ -138,7 +139,7 @@ fn begin(
     start(rt, settings, program, &mut memory[..size])
 }
 
-// Reads standard input, or the stream that the command opens.
+// Reads standard input, or the stream that the command opens. By a flag: both calls choose between the same two streams.
 fn read_one(
     rt: &(impl Input + Files + Eprint),
     standard: bool,

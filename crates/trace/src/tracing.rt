@@ -1,5 +1,5 @@
 // The traced run: the plain run with a budget of one issue, time after time, and a row of the list for each.
-ghost use Rattle.std.specs.Prelude.{◌≡◌, ◌&&◌, length, nat_lt};
+ghost use Rattle.std.specs.Prelude.{◌≡◌, ◌&&◌, length, nat_lt, slice_set};
 ghost use Rattle.std.proofs.Math.Option.{none};
 ghost use Rattle.interpreter.specs.Run.{number};
 ghost use Rattle.machine.specs.State.{state};
@@ -19,7 +19,16 @@ pub struct Step {
     pub row: Row,
 }
 
-// The smaller of a budget and a list's length.
+// Writes one row; past the end of the list nothing changes.
+fn put_row(rows: &mut [Row], at: usize, row: Row)
+    ensures { rows.new ≡ slice_set rows.old at row }
+{
+    if at < rows.len() {
+        rows[at] = row;
+    }
+}
+
+// The smaller of a budget and a list's length. By hand: they are of different types, and by `min` each call would have two conversions.
 #[tactic(auto, unfolding(crate::specs::Traced::least))]
 pub fn smaller(budget: u32, room: usize) -> u32
     ensures { result ≡ least budget room }
@@ -60,7 +69,8 @@ fn advance(program: &[u32], registers: &mut [u32], memory: &mut [u8], so_far: Ru
 }
 
 // Runs a program as `interpreter::run` does with the smaller of the budget and the list's length, and puts a row for each issue. A run
-// with no budget tells whether it is refused, and whether a thread is running.
+// with no budget tells whether it is refused, and whether a thread is running. It goes on by what the last run answered: it may end
+// before the list does. Program, registers and memory go one by one, as `interpreter::run` takes them.
 pub fn run_traced(
     program: &[u32],
     registers: &mut [u32],
@@ -76,7 +86,7 @@ pub fn run_traced(
     let mut run = interpreter::run(program, registers, memory, machine, 0)?;
     while goes_on(run, limit) {
         let step = advance(program, registers, memory, run);
-        rows[run.issues as usize] = step.row;
+        put_row(rows, run.issues as usize, step.row);
         run = step.run;
     }
     Ok(run)

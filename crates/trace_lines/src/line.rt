@@ -33,14 +33,15 @@ fn put_status(out: &mut [u8], at: usize, status: Status) -> usize
     }
 }
 
-// Whether a thread trapped because there is no word at its address, or none where it was to jump.
+// Whether a thread trapped because there is no word at its address, or none where it was to jump: 4 is that reason, in a pattern, which
+// calls no function.
 fn is_outside(status: Status) -> bool
     ensures { result ≡ is_outside status }
 {
     matches!(status, Status::Trapped(4))
 }
 
-// The name of a word, as the lister has it.
+// The name of a word, as the lister has it. Beside listing's, which puts a line end behind: neither crate knows the other's lines.
 #[tactic(auto, unfolding(listing::specs::Listing::label, isa::specs::Text::bytes))]
 fn put_label(out: &mut [u8], at: usize, word: u32) -> usize
     ensures { wrote result out.new ≡ puts (wrote at out.old) (label word) }

@@ -25,22 +25,15 @@ advance-step-requires c =
     taken-next a.program.now (state a.machine a.registers.now a.memory.now) (least a.budget (length a.rows.now)) a.rows.now
     (place l.run l.registers l.memory l.rows) l.invariant
 
-pub bounds-rows-run : goal.bounds-rows-run
-bounds-rows-run c =
-    let a = c.args in
-    let l = c.loop-registers in
-    let go : (is_spent l.run.stop && ltb l.run.issues (least a.budget (length a.rows.now))) ≡ true = rw c.smaller-limit.ensures at (sym c.goes_on.ensures ∙ c.loop-registers-test.true) in
-    let below : l.run.issues < least a.budget (length a.rows.now) = ltb-true _ _ (both (is_spent l.run.stop) (ltb l.run.issues (least a.budget (length a.rows.now))) go).1 in
-    omega (arith, below, (limited a.budget a.rows.now c.ranges.budget.fits).room, l.auto.rows)
-
 pub loop-registers-preserved : goal.loop-registers-preserved
 loop-registers-preserved c =
     let a = c.args in
     let l = c.loop-registers in
     let s = c.advance-step in
-    follows_on a.program.now (state a.machine a.registers.now a.memory.now) (least a.budget (length a.rows.now)) a.rows.now
+    rw c.put_row.ensures
+    (follows_on a.program.now (state a.machine a.registers.now a.memory.now) (least a.budget (length a.rows.now)) a.rows.now
     (place l.run l.registers l.memory l.rows) (limited a.budget a.rows.now c.ranges.budget.fits) l.invariant
-    (rw c.smaller-limit.ensures at (sym c.goes_on.ensures ∙ c.loop-registers-test.true)) s.result s.new.registers s.new.memory s.ensures
+    (rw c.smaller-limit.ensures at (sym c.goes_on.ensures ∙ c.loop-registers-test.true)) s.result s.new.registers s.new.memory s.ensures)
 
 pub loop-registers-smaller : goal.loop-registers-smaller
 loop-registers-smaller c =
