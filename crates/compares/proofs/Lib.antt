@@ -1,3 +1,3 @@
 -- Laws that several proofs cite.
 pub mod Picked
-pub mod Flags
+pub mod LaneFlags

@@ -2,7 +2,7 @@
 use Rattle.std.proofs.Common.{◌≡◌, ℕ, zero, suc, ◌+◌, ◌-◌, ◌*◌, ◌^◌, ◌≤◌, Bool, true, false, cond, not, ltb, leb, List, refl, ap, ◌∙◌, pow-suc, arith, ltb-false, ltb-true, le-leb}
 use borrow.Author.Tests.{lt-leb}
 use lib.Bits.{bit_and}
-use Rattle.compares.proofs.Flags.{masked}
+use Rattle.compares.proofs.LaneFlags.{masked}
 use Rattle.compares.specs.Lanes.{mask_below, compare_lanes}
 use Rattle.compares.specs.Outcome.{answers_of}
 use Rattle.ordering.specs.Compare.{compare}

@@ -1,6 +1,6 @@
 -- `outcome::collect` meets its contract: the first j bits are those of the answers, whatever they are.
 use Rattle.std.proofs.Common.{rules}
-use Rattle.compares.proofs.Flags.{start, more, whole}
+use Rattle.compares.proofs.LaneFlags.{start, more, whole}
 use Rattle.compares.proofs.outcome.collect.Goals as goal
 
 pub loop-j-init : goal.loop-j-init

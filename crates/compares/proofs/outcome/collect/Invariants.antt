@@ -2,7 +2,7 @@
 use Rattle.std.proofs.Common.{◌≡◌, ℕ, ◌<◌, Bool}
 use Rattle.vector.specs.Lanes.{lane}
 use Rattle.compares.specs.Outcome.{flags_of}
-use Rattle.compares.proofs.Flags.{Collecting}
+use Rattle.compares.proofs.LaneFlags.{Collecting}
 use Rattle.compares.proofs.outcome.collect.Given as goal
 
 abbrev pub invariant-loop-j : goal.invariant-loop-j

@@ -6,7 +6,7 @@ use Rattle.ordering.specs.Compare.{compare}
 use Rattle.vector.specs.Lanes.{lane}
 use Rattle.compares.specs.Lanes.{compare_lanes}
 use Rattle.compares.specs.Outcome.{answers_of}
-use Rattle.compares.proofs.Flags.{masked}
+use Rattle.compares.proofs.LaneFlags.{masked}
 use Rattle.compares.proofs.outcome.compare_lanes.Goals as goal
 
 pub returns : goal.returns

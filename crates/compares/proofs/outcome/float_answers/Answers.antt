@@ -2,7 +2,7 @@
 use Rattle.std.proofs.Common.{sym, ◌∙◌}
 use Rattle.ordering.proofs.FloatRows.{eq-row, ne-row, gt-row, ge-row, lt-row, le-row}
 use Rattle.compares.specs.Outcome.{answers_of}
-use Rattle.compares.proofs.Flags.{same-mask}
+use Rattle.compares.proofs.LaneFlags.{same-mask}
 use Rattle.compares.proofs.outcome.float_answers.Goals as goal
 
 pub returns-in-Feq : goal.returns-in-Feq

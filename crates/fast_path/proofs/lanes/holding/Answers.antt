@@ -1,6 +1,6 @@
 -- `lanes::holding` meets its contract: bit j is filled by the answer of lane j.
 use Rattle.std.proofs.Common.{ap, ◌∙◌, ap₂, rules}
-use Rattle.compares.proofs.Flags.{start, more, whole}
+use Rattle.compares.proofs.LaneFlags.{start, more, whole}
 use Rattle.compares.specs.Outcome.{flags_of, answers_of}
 use Rattle.fast_path.proofs.lanes.holding.Goals as goal
 

@@ -1,5 +1,5 @@
 -- `lanes::holding` meets its contract: bit j is filled by the answer of lane j.
-use Rattle.compares.proofs.Flags.{Collecting}
+use Rattle.compares.proofs.LaneFlags.{Collecting}
 use Rattle.ordering.specs.Compare.{compare}
 use Rattle.vector.specs.Lanes.{lane}
 use Rattle.fast_path.proofs.lanes.holding.Given as goal
