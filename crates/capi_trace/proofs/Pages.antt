@@ -3,7 +3,7 @@ use Prim.Native.Nat.{ℕ, ◌+◌, ◌-◌, ◌*◌, ◌^◌, ◌<◌, ◌≤◌
 use mathlib.Core.Bool.{Bool, true, false, ◌&&◌, cond}
 use mathlib.Core.List.{List, [], ◌∷◌, ◌++◌}
 use mathlib.Core.Option.{Option, none, some}
-use Rattle.std.specs.Prelude.{Err}
+use Rattle.std.specs.Prelude.{Result, Ok, Err, IsOk}
 use mathlib.Core.Path.{◌≡◌, refl, sym, ap, ◌∙◌}
 use native.Mathlib.Omega.{arith}
 use borrow.Author.Tests.{ltb-true, ltb-false}
@@ -24,7 +24,7 @@ use Rattle.trace.proofs.Following.{both, spent-given, not-spent}
 use Rattle.trace.proofs.Lists.{rows_append, rows-length}
 use Rattle.trace.proofs.Rules.{not-refused, refused-same, taken-so, taken-still}
 use Rattle.trace.specs.Rows.{rows_of, onto}
-use Rattle.trace.specs.Traced.{least, TracedRun, traced_run, run_traced, is_spent}
+use Rattle.trace.specs.Traced.{least, TracedRun, traced, traced_run, run_traced, is_spent}
 use Rattle.trace.specs.declared.row.Row.{Row}
 use Rattle.capi_trace.specs.Calls.{filled, filling}
 use Rattle.capi_trace.specs.Numbers.{all_numbers, put_rows}
@@ -62,6 +62,14 @@ empty (i ∷ is) l = absurd (omega arith)
 nothing_put : (lent : List ℕ) (p : List ℕ) → onto (all_numbers (rows_of p [])) lent ≡ lent
 unfolding onto all_numbers rows_of
 nothing_put lent p = refl
+
+-- a traced run of a run that the table gives no number is not refused
+pub run-ok : (p : List ℕ) (s : State) (budget : ℕ) (lent rows : List Row) (x : Result Run Refusal) (m : Machine) (registers memory : List ℕ)
+    → number p s ≡ none → traced x m registers memory rows ≡ run_traced p budget s lent → IsOk x
+unfolding run_traced
+run-ok p s budget lent rows (Ok r) m registers memory h o = refl
+run-ok p s budget lent rows (Err e) m registers memory h o =
+    absurd (not-refused p (least budget (length lent)) s e m registers memory h (ap (λ (t : TracedRun). t.run) o))
 
 -- a page makes no more issues than are left, and than it has rows
 pub page-few : (p : List ℕ) (left : ℕ) (s : State) (blank : List Row) (page : Run) (registers memory : List ℕ) (rows : List Row)

@@ -41,17 +41,17 @@ fn fill_page(
         word: 0,
         status: Status::Idle,
     };
-    let page = trace::run_page(
+    let mut rows = [blank; PAGE_ROWS];
+    let run = trace::run_traced(
         program,
         registers,
         memory,
         so_far.machine,
         left,
-        [blank; PAGE_ROWS],
-    )
-    .unwrap();
-    put_page(numbers, made, &page.rows[..page.run.issues as usize]);
-    trace::continued(so_far, page.run)
+        &mut rows,
+    ).unwrap();
+    put_page(numbers, made, &rows[..run.issues as usize]);
+    trace::continued(so_far, run)
 }
 
 // Runs a program with a budget that the list has room for, and puts the numbers of its rows. By pages: how many there are is known when the

@@ -5,36 +5,43 @@ use native.Mathlib.Omega.{arith}
 use lib.ListN.{length}
 use lib.Seq.{length-take-le}
 use Rattle.machine.specs.State.{state}
-use Rattle.trace.proofs.Following.{page-ok}
-use Rattle.capi_trace.proofs.Pages.{page-few}
+use Rattle.capi_trace.proofs.Pages.{page-few, run-ok}
 use Rattle.capi_trace.proofs.filling.fill_page.Goals as goal
 
-pub unwrap-page-requires : goal.unwrap-page-requires
-unwrap-page-requires c =
+pub unwrap-run-requires : goal.unwrap-run-requires
+unwrap-run-requires c =
     let a = c.args in
-    page-ok a.program.now (state a.so_far.machine a.registers.now a.memory.now) a.left _ _ _ _ _ c.requires.1 c.run_page.ensures
+    run-ok a.program.now (state a.so_far.machine a.registers.now a.memory.now) a.left _ _ _ _ _ _ c.requires.1 c.run_traced.ensures
 
-pub shared_ref_as_front-put_page : goal.shared_ref_as_front-put_page
-shared_ref_as_front-put_page c =
-    let page = c.unwrap-page.result in
-    let few = page-few _ _ _ _ page.run _ _ page.rows refl (rw c.unwrap-page.ensures at c.run_page.ensures) in
-    omega (arith, few.0)
+pub slice_bounds-rows-end : goal.slice_bounds-rows-end
+slice_bounds-rows-end c =
+    let few = page-few _ _ _ _ c.unwrap-run.result _ _ _ refl (rw c.unwrap-run.ensures at c.run_traced.ensures) in
+    omega (arith, few.0, c.run_traced.auto.rows)
+
+pub slice_bounds-put_page-end : goal.slice_bounds-put_page-end
+slice_bounds-put_page-end c =
+    let run = c.unwrap-run.result in
+    let rows = c.run_traced.new.rows in
+    let few = page-few _ _ _ _ run _ _ _ refl (rw c.unwrap-run.ensures at c.run_traced.ensures) in
+    let within : run.issues ≤ length rows = omega (arith, few.0, c.run_traced.auto.rows) in
+    omega (arith, length-take-le run.issues rows within)
 
 pub put_page-requires : goal.put_page-requires
 put_page-requires c =
-    let page = c.unwrap-page.result in
-    let few = page-few _ _ _ _ page.run _ _ page.rows refl (rw c.unwrap-page.ensures at c.run_page.ensures) in
-    let within : page.run.issues ≤ length page.rows = omega (arith, few.0) in
-    omega (arith, few.1, c.requires.0, length-take-le page.run.issues page.rows within)
+    let run = c.unwrap-run.result in
+    let rows = c.run_traced.new.rows in
+    let few = page-few _ _ _ _ run _ _ _ refl (rw c.unwrap-run.ensures at c.run_traced.ensures) in
+    let within : run.issues ≤ length rows = omega (arith, few.0, c.run_traced.auto.rows) in
+    omega (arith, few.1, c.requires.0, length-take-le run.issues rows within)
 
 pub returns : goal.returns
 returns c =
     record {
-      page = c.unwrap-page.result.run;
+      page = c.unwrap-run.result;
       blank = _;
-      rows = c.unwrap-page.result.rows;
+      rows = c.run_traced.new.rows;
       blanks = refl;
-      ran = rw c.unwrap-page.ensures at c.run_page.ensures;
+      ran = rw c.unwrap-run.ensures at c.run_traced.ensures;
       next = c.continued.ensures;
       put = c.put_page.ensures;
     }
