@@ -51,7 +51,7 @@ fn fill_page(
         &mut rows,
     ).unwrap();
     put_page(numbers, made, &rows[..run.issues as usize]);
-    trace::continued(so_far, run)
+    trace::joined(so_far, run)
 }
 
 // Runs a program with a budget that the list has room for, and puts the numbers of its rows. By pages: how many there are is known when the

@@ -1,4 +1,5 @@
 -- The types of the crates below, in one module.
+pub use Rattle.answer.specs.declared.refusal.Refusal.{Refusal}
 pub use Rattle.interpreter.specs.declared.outcome.Stop.{Stop}
 pub use Rattle.interpreter.specs.declared.outcome.Stop.TheVariants.{Stopped, Stuck, Spent}
 pub use Rattle.interpreter.specs.declared.outcome.Run.{Run}

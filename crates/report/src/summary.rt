@@ -1,11 +1,11 @@
 // The whole text: how the run ended, then the lines of the threads.
 // A buffer and a place go together, as in crate text.
-ghost use Rattle.std.specs.Prelude.{◌≡◌};
+ghost use Rattle.std.specs.Prelude.{Ok, ◌≡◌};
 ghost use Rattle.text.specs.Buffer.{wrote, puts, writes};
 ghost use Rattle.text.specs.Parts.{puts_all};
 ghost use Rattle.report.specs.Report.{counted, body_parts, report};
 
-use answer::REGISTER_WORDS;
+use answer::{REGISTER_WORDS, Refusal};
 use interpreter::{Run, Stop};
 use text::{put_decimal, put_text};
 use thread_lines::put_threads;
@@ -38,13 +38,28 @@ fn put_body(out: &mut [u8], word: &[u8], run: Run, registers: &[u32; REGISTER_WO
 // The longest text: 32 bytes for the first line, 93 for each thread, and 101 for the line of those that are off.
 pub const LONGEST: usize = 877;
 
-// Puts the text for a run at the start of the buffer, and answers its length. A refused run has none: nothing is printed of it.
-pub fn write_report(run: Run, registers: &[u32; REGISTER_WORDS], out: &mut [u8; LONGEST]) -> usize
-    ensures { wrote result out.new ≡ writes out.old 0 (report run registers.now) }
+// Puts the text for a run that was made at the start of the buffer.
+fn put_run(out: &mut [u8; LONGEST], run: Run, registers: &[u32; REGISTER_WORDS]) -> usize
+    ensures { wrote result out.new ≡ writes out.old 0 (report (Ok run) registers.now) }
 {
     match run.stop {
         Stop::Stopped => put_body(out, b"stopped", run, registers),
         Stop::Stuck => put_body(out, b"stuck", run, registers),
         Stop::Spent => put_body(out, b"spent", run, registers),
+    }
+}
+
+// Puts the text for a run at the start of the buffer, and answers its length: 0 for a refused run, of which nothing is printed.
+#[tactic(auto, unfolding(crate::specs::Report::report))]
+pub fn write_report(
+    run: Result<Run, Refusal>,
+    registers: &[u32; REGISTER_WORDS],
+    out: &mut [u8; LONGEST],
+) -> usize
+    ensures { wrote result out.new ≡ writes out.old 0 (report run registers.now) }
+{
+    match run {
+        Ok(run) => put_run(out, run, registers),
+        Err(_) => 0,
     }
 }

@@ -51,7 +51,7 @@ fn print_rows(
             [blank; PAGE_ROWS],
         )?;
         print_page(rt, run.issues, page.rows, page.run.issues)?;
-        run = trace::continued(run, page.run);
+        run = trace::joined(run, page.run);
         left = left.saturating_sub(PAGE_ROWS as u32);
     }
     Ok(run)
@@ -71,6 +71,6 @@ pub fn go_on(
     if rest == 0 {
         return Ok(run);
     }
-    let next = interpreter::run(program, registers, memory, run.machine, rest)?;
-    Ok(trace::continued(run, next))
+    let next = interpreter::run(program, registers, memory, run.machine, rest);
+    Ok(trace::continued(Ok(run), next)?)
 }

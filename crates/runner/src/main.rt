@@ -51,7 +51,7 @@ fn print(
     registers: &[u32; REGISTER_WORDS],
 ) -> Result<(), Failure> {
     let mut text = [0u8; report::LONGEST];
-    let length = report::write_report(run, registers, &mut text);
+    let length = report::write_report(Ok(run), registers, &mut text);
     write_out(rt, settings, &text[..length])
 }
 

@@ -1,8 +1,8 @@
 -- Two runs, one after the other, as one.
-use Rattle.std.specs.Prelude.{ℕ, ◌+◌, ◌-◌, ◌%◌, ◌^◌}
+use Rattle.std.specs.Prelude.{Result, Ok, Err, ℕ, ◌+◌, ◌-◌, ◌%◌, ◌^◌}
 use Rattle.interpreter.specs.Choosing.{entries_to}
 use Rattle.machine.specs.Scheduler.{choice}
-use Rattle.trace.specs.Types.{Run}
+use Rattle.trace.specs.Types.{Run, Refusal}
 
 -- looks at all, less those that both runs had, modulo 2^64
 unfoldable pub less_once : ℕ → ℕ → ℕ
@@ -17,3 +17,9 @@ continued_run first second =
       looks = less_once (first.looks + second.looks) (entries_to (choice first.machine));
       machine = second.machine;
     }
+
+-- of what two calls answered: of two runs that were made, the one run; where either was refused, the answer is the second's
+unfoldable pub continued : Result Run Refusal → Result Run Refusal → Result Run Refusal
+continued (Ok first) (Ok second) = Ok (continued_run first second)
+continued (Ok first) (Err refusal) = Err refusal
+continued (Err refusal) second = second

@@ -6,7 +6,7 @@ mod page;
 mod row;
 mod tracing;
 
-pub use joining::continued;
+pub use joining::{continued, joined};
 pub use page::{PAGE_ROWS, Page, run_page};
 pub use row::Row;
 pub use tracing::{run_traced, smaller};

@@ -6,7 +6,7 @@ ghost use Rattle.machine.specs.State.{state};
 ghost use Rattle.trace.specs.Traced.{least, is_spent, traced, run_traced};
 ghost use Rattle.trace.specs.Turn.{Advanced};
 
-use crate::joining::continued;
+use crate::joining::joined;
 use crate::row::{Row, address_of, next_thread, status_of, word_at};
 use answer::Refusal;
 use interpreter::{Run, Stop};
@@ -58,7 +58,7 @@ fn advance(program: &[u32], registers: &mut [u32], memory: &mut [u8], so_far: Ru
     let word = word_at(program, address);
     let one = interpreter::run(program, registers, memory, so_far.machine, 1).unwrap();
     Step {
-        run: continued(so_far, one),
+        run: joined(so_far, one),
         row: Row {
             thread,
             address,

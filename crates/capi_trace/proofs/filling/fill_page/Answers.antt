@@ -42,6 +42,6 @@ returns c =
       rows = c.run_traced.new.rows;
       blanks = refl;
       ran = rw c.unwrap-run.ensures at c.run_traced.ensures;
-      next = c.continued.ensures;
+      next = c.joined.ensures;
       put = c.put_page.ensures;
     }

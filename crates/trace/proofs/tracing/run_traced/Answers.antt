@@ -1,9 +1,9 @@
 -- What stays true from turn to turn is `Follows`.
 use Rattle.std.proofs.lemmas.Result.{err_from_is_err_and}
-use Rattle.std.proofs.Common.{◌≡◌, ◌<◌, true, ◌&&◌, ltb, length, sym, ◌∙◌, arith, ltb-true}
+use Rattle.std.proofs.Common.{length, sym, ◌∙◌}
 use Rattle.machine.specs.State.{state}
-use Rattle.trace.specs.Traced.{least, is_spent}
-use Rattle.trace.proofs.Following.{place, both, limited, begins, taken-next, follows_on, nearer, refuses, finishes}
+use Rattle.trace.specs.Traced.{least}
+use Rattle.trace.proofs.Following.{place, limited, begins, taken-next, follows_on, nearer, refuses, finishes}
 use Rattle.trace.proofs.tracing.run_traced.Goals as goal
 
 pub loop-registers-init : goal.loop-registers-init

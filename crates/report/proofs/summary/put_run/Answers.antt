@@ -5,7 +5,7 @@ use lib.Dec.{lit≤}
 use Rattle.isa.specs.Text.{bytes}
 use Rattle.report.proofs.Lengths.{body-whole}
 use Rattle.report.specs.Report.{report}
-use Rattle.report.proofs.summary.write_report.Goals as goal
+use Rattle.report.proofs.summary.put_run.Goals as goal
 
 pub returns-in-Stopped : goal.returns-in-Stopped
 unfolding report bytes
