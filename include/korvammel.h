@@ -5,7 +5,7 @@
  * otherwise. (korvammel_name answers a length.)
  *
  * The library is for x86-64 Linux, in C's own calling convention there. A call needs at most 3,712 bytes of stack (on words; a
- * traced run 3,008, the others under 2,048), but for korvammel_assemble, which says its own. It uses the red zone, the 128 bytes below the
+ * traced run 2,944, the others under 2,048), but for korvammel_assemble, which says its own. It uses the red zone, the 128 bytes below the
  * stack pointer, which are among these: an interrupt that comes in on the same stack has to leave them alone. Of the C library it calls
  * memset alone.
  *

@@ -1,7 +1,7 @@
 // A traced run page by page, each page's rows put as numbers.
 ghost use Rattle.std.specs.Prelude.{◌+◌, ◌*◌, ◌^◌, ◌≤◌, ◌<◌, ◌&&◌, ◌≡◌, ltb, length};
 ghost use Rattle.std.proofs.Math.Option.{none};
-ghost use Rattle.interpreter.specs.Run.{outcome, number};
+ghost use Rattle.interpreter.specs.Run.{outcome, number, run};
 ghost use Rattle.machine.specs.State.{state};
 ghost use Rattle.trace.specs.Traced.{is_spent};
 ghost use Rattle.capi_trace.specs.Calls.{filled, filling};
@@ -19,6 +19,20 @@ fn goes_on(run: Run, made: u32, limit: u32) -> bool
     ensures { result ≡ (is_spent run.stop && ltb made limit) }
 {
     (run.stop == Stop::Spent) & (made < limit)
+}
+
+// A run with no budget: it tells whether a run is refused, and whether a thread is running. Apart, so that what the call answers has no
+// place on the stack while the pages are run.
+fn begin(
+    program: &[u32],
+    registers: &mut [u32],
+    memory: &mut [u8],
+    machine: Machine,
+) -> Result<Run, Refusal>
+    ensures { outcome result machine registers.new memory.new ≡ run program.now 0 (state machine registers.old memory.old) }
+{
+    let run = interpreter::run(program, registers, memory, machine, 0)?;
+    Ok(run)
 }
 
 // One page more of a run, which is not refused: its rows are put behind those made.
@@ -69,7 +83,7 @@ pub fn fill(
         ≡ filling program.now limit (state machine registers.old memory.old) numbers.old }
 {
     let mut made: u32 = 0;
-    let mut run = interpreter::run(program, registers, memory, machine, 0)?;
+    let mut run = begin(program, registers, memory, machine)?;
     while goes_on(run, made, limit) {
         let left = limit - made;
         run = fill_page(program, registers, memory, run, made, left, numbers);

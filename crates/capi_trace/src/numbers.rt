@@ -64,7 +64,8 @@ fn put_row(numbers: &mut [u32], at: u32, row: Row)
     put_numbers(numbers, ROW_NUMBERS * at as usize, numbers_of(row));
 }
 
-// Puts the rows of a page, from a row's place on.
+// Puts the rows of a page, from a row's place on. A call of its own, so that what it keeps on the stack is not there below a run.
+#[inline(never)]
 #[tactic(auto, unfolding(crate::specs::Numbers::put_rows))]
 pub fn put_page(numbers: &mut [u32], at: u32, rows: &[Row])
     requires { at + length rows.now < 2 ^ 32 }

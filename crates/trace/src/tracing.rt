@@ -1,7 +1,7 @@
 // The traced run: the plain run with a budget of one issue, time after time, and a row of the list for each.
 ghost use Rattle.std.specs.Prelude.{◌≡◌, ◌&&◌, length, nat_lt, slice_set};
 ghost use Rattle.std.proofs.Math.Option.{none};
-ghost use Rattle.interpreter.specs.Run.{number};
+ghost use Rattle.interpreter.specs.Run.{number, outcome, run};
 ghost use Rattle.machine.specs.State.{state};
 ghost use Rattle.trace.specs.Traced.{least, is_spent, traced, run_traced};
 ghost use Rattle.trace.specs.Turn.{Advanced};
@@ -47,6 +47,20 @@ fn goes_on(run: Run, limit: u32) -> bool
     (run.stop == Stop::Spent) & (run.issues < limit)
 }
 
+// A run with no budget: it tells whether a run is refused, and whether a thread is running. Apart, so that what the call answers has no
+// place on the stack while the loop runs.
+fn begin(
+    program: &[u32],
+    registers: &mut [u32],
+    memory: &mut [u8],
+    machine: Machine,
+) -> Result<Run, Refusal>
+    ensures { outcome result machine registers.new memory.new ≡ run program.now 0 (state machine registers.old memory.old) }
+{
+    let run = interpreter::run(program, registers, memory, machine, 0)?;
+    Ok(run)
+}
+
 // The next issue, by a run with a budget of one. A run that goes on from one that was taken is not refused.
 fn advance(program: &[u32], registers: &mut [u32], memory: &mut [u8], so_far: Run) -> Step
     requires { number program.now (state so_far.machine registers.old memory.old) ≡ none }
@@ -83,7 +97,7 @@ pub fn run_traced(
         ≡ run_traced program.now budget (state machine registers.old memory.old) rows.old }
 {
     let limit = smaller(budget, rows.len());
-    let mut run = interpreter::run(program, registers, memory, machine, 0)?;
+    let mut run = begin(program, registers, memory, machine)?;
     while goes_on(run, limit) {
         let step = advance(program, registers, memory, run);
         put_row(rows, run.issues as usize, step.row);

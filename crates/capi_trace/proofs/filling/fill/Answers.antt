@@ -64,10 +64,10 @@ returns c =
     ∙ ap (λ (y : State). filling a.program.now a.limit y a.numbers.now) same
 
 pub shape_of-registers : goal.shape_of-registers
-shape_of-registers c = c.loop-left.invariant.1 ∙ c.run.auto.registers
+shape_of-registers c = c.loop-left.invariant.1 ∙ c.begin.auto.registers
 
 pub shape_of-memory : goal.shape_of-memory
-shape_of-memory c = c.loop-left.invariant.2 ∙ c.run.auto.memory
+shape_of-memory c = c.loop-left.invariant.2 ∙ c.begin.auto.memory
 
 pub shape_of-numbers : goal.shape_of-numbers
 shape_of-numbers c = c.loop-left.invariant.3
