@@ -3,4 +3,4 @@
 
 mod outcome;
 
-pub use outcome::{collect, compare_lanes, flags};
+pub use outcome::{compare_lanes, flags};

@@ -64,7 +64,7 @@ fn select(outcome: Ordering, below: u32, equal: u32, above: u32) -> u32
 }
 
 // A bit a lane, of an answer in the bits of all lanes: where `flags_at` is known, the compiler makes vector instructions of the loop.
-pub fn collect<F: Fn(u32, u32) -> u32>(x: [u32; 16], y: [u32; 16], flags_at: F) -> u32
+fn collect<F: Fn(u32, u32) -> u32>(x: [u32; 16], y: [u32; 16], flags_at: F) -> u32
     requires { F.IsAlwaysCallable flags_at }
     ensures { (f : ℕ → Bool) → ((j r : ℕ) → j < 16 → F.post flags_at (lane x j) (lane y j) r → r ≡ flags_of (f j)) → result ≡ mask_below 16 f }
 {

@@ -13,8 +13,4 @@ mod operand;
 mod operation;
 mod registers;
 
-pub use immediate::replace;
-pub use issuing::{Issued, fits, issue};
-pub use jump::in_program;
-pub use operand::splat;
-pub use registers::{advance, scalar, set_scalar, set_vector, vector};
+pub use issuing::{Issued, issue};

@@ -1,12 +1,14 @@
 // Families of words on scalars: what a word does, or that it is tried as one on vectors or left to the slow path.
 ghost use Rattle.std.specs.Prelude.{◌≡◌, if◌then◌else◌};
+ghost use Rattle.execution.specs.Immediate.{replaced};
 ghost use Rattle.execution.specs.Registers.{InRegisters};
+ghost use Rattle.isa.specs.Claims.{HalfWord};
 ghost use Rattle.isa.specs.Table.{row_r, row_movei, row_j, row_m};
 ghost use Rattle.fast_path.specs.Action.{HasOpcode, ActsOn, ActsAnywhere};
 ghost use Rattle.fast_path.specs.Types.{Next, Jump, Binary, Unary, Compare, Load};
 
 use crate::action::Action;
-use crate::field;
+use crate::{field, registers};
 use isa::{BinaryOp, CompareOp, JumpOp, LoadOp, MoveiOp, UnaryOp};
 
 // R and I have functions of their own: they differ in the flags, in operand b and in the law of their words, and a function of both with a
@@ -18,8 +20,8 @@ pub fn binary_r(regs: &[u32], t: usize, w: u32, op: BinaryOp) -> Action
     if field::flags_r(w) != 0 {
         return Action::Lanes;
     }
-    let x = execution::scalar(regs, t, field::second(w));
-    let y = execution::scalar(regs, t, field::third(w));
+    let x = registers::scalar(regs, t, field::second(w));
+    let y = registers::scalar(regs, t, field::third(w));
     Action::Write(alu::binary(op, x, y))
 }
 
@@ -30,7 +32,7 @@ pub fn binary_i(regs: &[u32], t: usize, w: u32, op: BinaryOp) -> Action
     if field::flags_i(w) != 0 {
         return Action::Lanes;
     }
-    let x = execution::scalar(regs, t, field::second(w));
+    let x = registers::scalar(regs, t, field::second(w));
     let y = word_layout::short_signed(w);
     Action::Write(alu::binary(op, x, y))
 }
@@ -43,7 +45,7 @@ pub fn unary_r(regs: &[u32], t: usize, w: u32, op: UnaryOp) -> Action
     if w % 4096 != 0 {
         return Action::Defer;
     }
-    let x = execution::scalar(regs, t, field::second(w));
+    let x = registers::scalar(regs, t, field::second(w));
     Action::Write(alu::unary(op, x))
 }
 
@@ -54,8 +56,8 @@ pub fn compare_r(regs: &[u32], t: usize, w: u32, op: CompareOp) -> Action
     if field::flags_r(w) != 0 {
         return Action::Lanes;
     }
-    let x = execution::scalar(regs, t, field::second(w));
-    let y = execution::scalar(regs, t, field::third(w));
+    let x = registers::scalar(regs, t, field::second(w));
+    let y = registers::scalar(regs, t, field::third(w));
     Action::Write(u32::from(ordering::compare(op, x, y)))
 }
 
@@ -66,9 +68,21 @@ pub fn compare_i(regs: &[u32], t: usize, w: u32, op: CompareOp) -> Action
     if field::flags_i(w) != 0 {
         return Action::Lanes;
     }
-    let x = execution::scalar(regs, t, field::second(w));
+    let x = registers::scalar(regs, t, field::second(w));
     let y = word_layout::short_signed(w);
     Action::Write(u32::from(ordering::compare(op, x, y)))
+}
+
+// What a move of n makes of a register that held `old`, as `execution` has it: opened there, it would ask for half a word.
+fn replace(op: MoveiOp, old: u32, n: u32) -> u32
+    requires { HalfWord op n }
+    ensures { result ≡ replaced op old n }
+{
+    match op {
+        MoveiOp::Low => old / 65536 * 65536 + n,
+        MoveiOp::High => n * 65536 + old % 65536,
+        MoveiOp::Whole => n,
+    }
 }
 
 pub fn move_immediate(regs: &[u32], t: usize, w: u32, op: MoveiOp) -> Action
@@ -78,8 +92,8 @@ pub fn move_immediate(regs: &[u32], t: usize, w: u32, op: MoveiOp) -> Action
     if w % 4 != 0 {
         return Action::Defer;
     }
-    let old = execution::scalar(regs, t, field::first(w));
-    Action::Write(execution::replace(op, old, isa::movei_number(op, w)))
+    let old = registers::scalar(regs, t, field::first(w));
+    Action::Write(replace(op, old, isa::movei_number(op, w)))
 }
 
 // A branch, taken or not.
@@ -99,7 +113,7 @@ pub fn jump(regs: &[u32], t: usize, w: u32, op: JumpOp) -> Action
     ensures { ActsAnywhere t w regs.now result }
 {
     let register = field::first(w);
-    let x = execution::scalar(regs, t, register);
+    let x = registers::scalar(regs, t, register);
     let offset = word_layout::long_signed(w);
     match op {
         JumpOp::Jmp => if register == 0 {
@@ -121,7 +135,7 @@ pub fn load(regs: &[u32], memory: &[u8], t: usize, w: u32, op: LoadOp) -> Action
     if field::flags_i(w) != 0 {
         return Action::Defer;
     }
-    let base = execution::scalar(regs, t, field::second(w));
+    let base = registers::scalar(regs, t, field::second(w));
     let offset = word_layout::short_signed(w);
     match memory::load(op, memory, base, offset) {
         Ok(x) => Action::Write(x),

@@ -1,6 +1,8 @@
 // The word of a thread's issue, tried by the fast path.
 ghost use Rattle.std.specs.Prelude.{◌≡◌, ◌<◌, ◌≤◌};
 ghost use Rattle.answer.specs.Refusal.{program_words};
+ghost use Rattle.execution.specs.Issue.{fits};
+ghost use Rattle.execution.specs.Jump.{in_program};
 ghost use Rattle.execution.specs.Registers.{InRegisters};
 ghost use Rattle.isa.specs.Table.{row_m};
 ghost use Rattle.fast_path.specs.Action.{HasOpcode, GoesBy, TriedStore, TriedWord, TriedIssue};
@@ -8,8 +10,24 @@ ghost use Rattle.fast_path.specs.Types.{Jump, Store};
 
 use crate::action::Action;
 use crate::{field, lanes, registers, table};
+use answer::{PROGRAM_WORDS, REGISTER_WORDS};
 use isa::StoreOp;
 use machine::PROGRAM_COUNTER;
+
+// Whether the lengths and the thread are such as a run comes to, and whether a word of the program stands at an address: as `execution` has
+// them, for the reason that registers.rt gives.
+fn fits(words: usize, regs: usize, thread: usize) -> bool
+    ensures { result ≡ fits words regs thread }
+{
+    (words <= PROGRAM_WORDS) & (regs == REGISTER_WORDS) & (thread < 8)
+}
+
+fn in_program(words: usize, address: u32) -> bool
+    requires { words ≤ program_words }
+    ensures { result ≡ in_program words address }
+{
+    (address % 4 == 0) & ((address as usize) < 4 * words)
+}
 
 // A thread, an address and a word go as three numbers from here on: contracts speak of each by itself, and to a function that stands apart
 // a struct would go by its address.
@@ -20,10 +38,10 @@ fn jump(words: usize, regs: &mut [u32], t: usize, pc: u32, offset: u32) -> bool
     ensures { GoesBy t pc words 0 regs.old (Jump offset) result regs.new }
 {
     let target = pc.wrapping_add(offset);
-    if !execution::in_program(words, target) {
+    if !in_program(words, target) {
         return false;
     }
-    execution::set_scalar(regs, t, PROGRAM_COUNTER, target);
+    registers::set_scalar(regs, t, PROGRAM_COUNTER, target);
     true
 }
 
@@ -34,7 +52,7 @@ fn act(words: usize, regs: &mut [u32], t: usize, pc: u32, d: usize, action: Acti
 {
     match action {
         Action::Write(x) => {
-            execution::set_scalar(regs, t, d as u32, x);
+            registers::set_scalar(regs, t, d as u32, x);
             registers::go_on(regs, t, pc)
         }
         Action::Next => registers::go_on(regs, t, pc),
@@ -51,8 +69,8 @@ fn store(regs: &mut [u32], memory: &mut [u8], t: usize, pc: u32, w: u32, op: Sto
     if field::flags_i(w) != 0 {
         return false;
     }
-    let base = execution::scalar(regs, t, field::second(w));
-    let x = execution::scalar(regs, t, field::first(w));
+    let base = registers::scalar(regs, t, field::second(w));
+    let x = registers::scalar(regs, t, field::first(w));
     let offset = word_layout::short_signed(w);
     match memory::store(op, memory, base, offset, x) {
         Ok(()) => registers::go_on(regs, t, pc),
@@ -89,11 +107,11 @@ pub fn try_word(program: &[u32], regs: &mut [u32], memory: &mut [u8], thread: us
     ensures { TriedIssue program.now thread regs.old memory.old result regs.new memory.new }
 {
     let words = program.len();
-    if !execution::fits(words, regs.len(), thread) {
+    if !fits(words, regs.len(), thread) {
         return false;
     }
-    let pc = execution::scalar(regs, thread, PROGRAM_COUNTER);
-    if !execution::in_program(words, pc) {
+    let pc = registers::scalar(regs, thread, PROGRAM_COUNTER);
+    if !in_program(words, pc) {
         return false;
     }
     let w = program[(pc / 4) as usize];

@@ -20,7 +20,7 @@ fn all_on(regs: &[u32], t: usize) -> bool
     requires { InRegisters regs.now t }
     ensures { result ≡ all_on regs.now t }
 {
-    execution::scalar(regs, t, LANE_MASK) % 65536 == 65535
+    registers::scalar(regs, t, LANE_MASK) % 65536 == 65535
 }
 
 // The vector in bits 23-18 gets lanes, every one of which is on.
@@ -28,7 +28,7 @@ fn put(regs: &mut [u32], t: usize, pc: u32, w: u32, v: [u32; 16]) -> bool
     requires { InRegisters regs.old t × (pc < 65536) × (all_on regs.old t ≡ true) }
     ensures { (result ≡ true) × (regs.new ≡ with_program_counter (with_lanes_on regs.old t (field w first_register) v) t (pc + 4)) }
 {
-    execution::set_vector(regs, t, field::first(w), v);
+    registers::set_vector(regs, t, field::first(w), v);
     registers::go_on(regs, t, pc)
 }
 
@@ -87,7 +87,7 @@ fn combine_number(
     requires { InRegisters regs.old t × (pc < 65536) × (all_on regs.old t ≡ true) × Combines t w regs.old opcode x (splatted n) }
     ensures { TriedLanes t pc w regs.old result regs.new }
 {
-    let y = execution::splat(n);
+    let y = registers::splat(n);
     match opcode {
         1 => combine(regs, t, pc, w, BinaryOp::Or, x, y),
         2 => combine(regs, t, pc, w, BinaryOp::And, x, y),
@@ -109,8 +109,8 @@ fn binary_vectors(regs: &mut [u32], t: usize, pc: u32, w: u32) -> bool
     if !all_on(regs, t) {
         return false;
     }
-    let x = execution::vector(regs, t, field::second(w));
-    let y = execution::vector(regs, t, field::third(w));
+    let x = registers::vector(regs, t, field::second(w));
+    let y = registers::vector(regs, t, field::third(w));
     combine_vectors(regs, t, pc, w, (w / 0x1000000) as u8, x, y)
 }
 
@@ -121,7 +121,7 @@ fn binary_number(regs: &mut [u32], t: usize, pc: u32, w: u32, opcode: u8, n: u32
     if !all_on(regs, t) {
         return false;
     }
-    let x = execution::vector(regs, t, field::second(w));
+    let x = registers::vector(regs, t, field::second(w));
     combine_number(regs, t, pc, w, opcode, x, n)
 }
 
@@ -153,8 +153,8 @@ fn holding(regs: &[u32], t: usize, op: CompareOp, i: u32, k: u32) -> u32
     requires { InRegisters regs.now t × (i < 64) × (k < 64) }
     ensures { result ≡ answers_of op (vector regs.now t i) (vector regs.now t k) }
 {
-    let x = execution::vector(regs, t, i);
-    let y = execution::vector(regs, t, k);
+    let x = registers::vector(regs, t, i);
+    let y = registers::vector(regs, t, k);
     let mut r: u32 = 0;
     for (j, a) in x.iter().enumerate() {
         r |= compares::flags(ordering::compare(op, *a, y[j])) & (1 << j);
@@ -218,9 +218,9 @@ fn compare_vectors(regs: &mut [u32], t: usize, pc: u32, w: u32, opcode: u8) -> b
     let Some(op) = compare_at(opcode) else {
         return false;
     };
-    let mask = execution::scalar(regs, t, LANE_MASK);
+    let mask = registers::scalar(regs, t, LANE_MASK);
     let yes = answers(regs, t, op, field::second(w), field::third(w));
-    execution::set_scalar(regs, t, field::first(w), yes & mask);
+    registers::set_scalar(regs, t, field::first(w), yes & mask);
     registers::go_on(regs, t, pc)
 }
 
@@ -234,7 +234,7 @@ fn r_word(regs: &mut [u32], t: usize, pc: u32, w: u32) -> bool
         0b1110 => binary_vectors(regs, t, pc, w),
         0b0110 => compare_vectors(regs, t, pc, w, opcode),
         0b1100 => {
-            let n = execution::scalar(regs, t, field::third(w));
+            let n = registers::scalar(regs, t, field::third(w));
             binary_number(regs, t, pc, w, opcode, n)
         }
         _ => false,
@@ -259,7 +259,7 @@ fn load(regs: &mut [u32], memory: &[u8], t: usize, pc: u32, w: u32) -> bool
         × (w % 2 ^ 3 ≡ 0) }
     ensures { TriedStore t pc w regs.old memory.now result regs.new memory.now }
 {
-    let base = execution::scalar(regs, t, field::second(w));
+    let base = registers::scalar(regs, t, field::second(w));
     let offset = word_layout::short_signed(w);
     match memory::load_lanes(memory, base, offset) {
         Ok(lanes) => put(regs, t, pc, w, lanes),
@@ -273,9 +273,9 @@ fn store(regs: &mut [u32], memory: &mut [u8], t: usize, pc: u32, w: u32) -> bool
         × (w % 2 ^ 3 ≡ 0) }
     ensures { TriedStore t pc w regs.old memory.old result regs.new memory.new }
 {
-    let base = execution::scalar(regs, t, field::second(w));
+    let base = registers::scalar(regs, t, field::second(w));
     let offset = word_layout::short_signed(w);
-    let v = execution::vector(regs, t, field::first(w));
+    let v = registers::vector(regs, t, field::first(w));
     match memory::store_lanes(memory, base, offset, 65535, v) {
         Ok(()) => registers::go_on(regs, t, pc),
         Err(_) => false,

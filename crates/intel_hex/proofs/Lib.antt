@@ -13,3 +13,4 @@ pub mod Passing
 pub mod Addresses
 pub mod Again
 pub mod Shown
+mod HighDigit

@@ -22,7 +22,7 @@ fn put_byte(out: &mut [u8], at: usize, b: u32) -> usize
     ensures { wrote result out.new ≡ writes out.old at (hexes (b ∷ [])) }
 {
     out[at] = digit_of(b / 16);
-    out[at + 1] = digit_of(b % 16);
+    out[at + 1] = digit_of(b);
     at + 2
 }
 
@@ -68,13 +68,13 @@ fn head_of(n: u32, address: u32, kind: u32) -> [u8; 9]
     [
         b':',
         digit_of(n / 16),
-        digit_of(n % 16),
+        digit_of(n),
         digit_of(high / 16),
-        digit_of(high % 16),
+        digit_of(high),
         digit_of(low / 16),
-        digit_of(low % 16),
+        digit_of(low),
         digit_of(kind / 16),
-        digit_of(kind % 16),
+        digit_of(kind),
     ]
 }
 
@@ -84,7 +84,7 @@ fn tail_of(sum: u32) -> [u8; 3]
     ensures { result ≡ hexes (checksum sum ∷ []) ++ 10 ∷ [] }
 {
     let b = (256 - sum) % 256;
-    [digit_of(b / 16), digit_of(b % 16), 10]
+    [digit_of(b / 16), digit_of(b), 10]
 }
 
 // Puts a record of bytes of a program, and answers the place behind it.

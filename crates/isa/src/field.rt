@@ -1,10 +1,17 @@
 // The numbers that a MOVEI word's field and signed fields stand for.
-ghost use Rattle.std.specs.Prelude.{◌≡◌, ◌≤◌};
-ghost use Rattle.word_layout.specs.Layout.{fits_signed, field, immediate_movei};
+ghost use Rattle.std.specs.Prelude.{◌≡◌, ◌*◌, ◌<◌, ◌≤◌};
+ghost use Rattle.word_layout.specs.Layout.{signed, fits_signed, field, immediate_movei};
 ghost use Rattle.isa.specs.Number.{number_movei, fits_movei};
 
 use crate::instruction::MoveiOp;
-use word_layout::signed_number;
+
+// The number that a signed field of n stands for, as `word_layout` has it: opened there, it would ask for a HALF and an n.
+fn signed_number<const HALF: u32>(n: u32) -> u32
+    requires { (1 ≤ HALF) × (HALF ≤ 0x40000000) × (n < 2 * HALF) }
+    ensures { result ≡ signed HALF n }
+{
+    ((n + HALF) % (2 * HALF)).wrapping_sub(HALF)
+}
 
 // The number of a MOVEI word: signed for movei alone.
 pub fn movei_number(op: MoveiOp, w: u32) -> u32

@@ -1,19 +1,19 @@
 // Numbers as text.
-ghost use Rattle.std.specs.Prelude.{◌≡◌, ◌<◌};
+ghost use Rattle.std.specs.Prelude.{◌≡◌, ◌%◌};
 ghost use Rattle.text.specs.Buffer.{wrote, puts};
 ghost use Rattle.text.specs.Number.{digit, hex, decimal, decimal_long};
 
 use crate::buffer::put_text;
 
-// The digit of a number below 16.
+// The last digit of a number in hex.
 pub fn digit_of(n: u32) -> u8
-    requires { n < 16 }
-    ensures { result ≡ digit n }
+    ensures { result ≡ digit (n % 16) }
 {
-    if n < 10 {
-        b'0' + n as u8
+    let last = n % 16;
+    if last < 10 {
+        b'0' + last as u8
     } else {
-        b'A' + (n - 10) as u8
+        b'A' + (last - 10) as u8
     }
 }
 
@@ -22,14 +22,14 @@ pub fn hex_of(n: u32) -> [u8; 8]
     ensures { result ≡ hex n }
 {
     [
-        digit_of(n / 0x10000000 % 16),
-        digit_of(n / 0x1000000 % 16),
-        digit_of(n / 0x100000 % 16),
-        digit_of(n / 0x10000 % 16),
-        digit_of(n / 0x1000 % 16),
-        digit_of(n / 0x100 % 16),
-        digit_of(n / 0x10 % 16),
-        digit_of(n % 16),
+        digit_of(n / 0x10000000),
+        digit_of(n / 0x1000000),
+        digit_of(n / 0x100000),
+        digit_of(n / 0x10000),
+        digit_of(n / 0x1000),
+        digit_of(n / 0x100),
+        digit_of(n / 0x10),
+        digit_of(n),
     ]
 }
 

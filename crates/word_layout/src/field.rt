@@ -4,7 +4,7 @@ ghost use Rattle.word_layout.specs.Layout.{signed, signed_field, immediate_i, of
 
 // The number that a signed field of n stands for. HALF, which its sign bit weighs, is added and taken away again, of which the compiler
 // makes two shifts.
-pub fn signed_number<const HALF: u32>(n: u32) -> u32
+fn signed_number<const HALF: u32>(n: u32) -> u32
     requires { (1 ≤ HALF) × (HALF ≤ 0x40000000) × (n < 2 * HALF) }
     ensures { result ≡ signed HALF n }
 {

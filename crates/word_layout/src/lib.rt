@@ -4,5 +4,5 @@
 mod field;
 mod prefix;
 
-pub use field::{long_signed, short_signed, signed_number};
+pub use field::{long_signed, short_signed};
 pub use prefix::{PREFIX_C, PREFIX_I, PREFIX_J, PREFIX_M, PREFIX_MOVEI, PREFIX_R};
