@@ -41,7 +41,10 @@ fn save_by(
     image: &mut [u8],
 ) {
     let Settings { form, dropping } = settings;
-    let written = image::write_as(form, dropping, registers, memory, machine, image);
+    let written = match form {
+        Form::Newest => image::write(registers, memory, machine, image),
+        Form::Old => image::write_old(registers, memory, machine, dropping, image),
+    };
     if let Err(refusal) = written {
         return refuse(rt, refusal.number());
     }

@@ -10,7 +10,7 @@ ghost use Rattle.interpreter.specs.Run.{run_outcome, outcome, accepted_run, run}
 ghost use Rattle.interpreter.specs.Stretch.{Repeats, Continues, Stretched};
 
 use crate::outcome::{Run, Stop};
-use answer::{Refusal, lengths_verdict};
+use answer::{Refusal, first_refusal, lengths_verdict};
 use machine::Machine;
 use run_record::{some_waits, with_last};
 use thread_entry::many_more;
@@ -33,8 +33,7 @@ fn record_verdict(machine: Machine) -> Result<(), Refusal>
 fn run_verdict(words: usize, regs: usize, bytes: usize, machine: Machine) -> Result<(), Refusal>
     ensures { number_of result ≡ run_number words regs bytes machine }
 {
-    lengths_verdict(words, regs, bytes)?;
-    record_verdict(machine)
+    first_refusal(lengths_verdict(words, regs, bytes), record_verdict(machine))
 }
 
 // How a run ends where no thread is running: whether one waits.
