@@ -30,7 +30,9 @@ fn is_named(immediate: bool, row: NameRow, word: &[u8]) -> bool
     requires { row.2 ≤ 16 }
     ensures { result ≡ same (row_name immediate row) word.now }
 {
-    let name = &row.3[..row.2];
+    // by parts: of a row that is copied whole, the length is read from memory just written, for which a processor waits
+    let NameRow(_, _, len, bytes) = row;
+    let name = &bytes[..len];
     if !immediate {
         return name == word;
     }
