@@ -28,13 +28,21 @@ fn word_from(text: &[u8], place: usize) -> &[u8]
     &text[place..past_run(text, place)]
 }
 
+// Whether two words are the same. Apart, so that an edit of the compare is refused for what it answers.
+#[tactic(auto, using(crate::proofs::Named::same_is), unfolding(crate::specs::Label::same))]
+fn same_bytes(a: &[u8], b: &[u8]) -> bool
+    ensures { result ≡ same a.now b.now }
+{
+    a == b
+}
+
 // Whether a word is the one that stands in the source from a place on. The first byte is looked at before the others: most end there.
 fn same_word(source: &[u8], place: usize, word: &[u8]) -> bool
     ensures { result ≡ same (leading_word (drop place source.now)) word.now }
 {
     match (source.get(place), word.first()) {
         (Some(a), Some(b)) if a != b => false,
-        _ => word_from(source, place) == word,
+        _ => same_bytes(word_from(source, place), word),
     }
 }
 

@@ -102,6 +102,9 @@ fn code_line(line: &[u8], labels: Labels) -> Option<Line>
     }
 }
 
+// The most bytes of a line.
+const LONGEST_LINE: usize = 120;
+
 // What a line of a source says, by its labels; None where it is malformed.
 #[tactic(auto, unfolding(crate::specs::Line::line_of))]
 pub fn line_of(line: &[u8], labels: Labels) -> Option<Line>
@@ -109,7 +112,7 @@ pub fn line_of(line: &[u8], labels: Labels) -> Option<Line>
         ≡ evaluated_line (addresses labels.entry) (line_of line.now) }
     ensures label { LabelInside (length line.now) result }
 {
-    if 120 < line.len() {
+    if LONGEST_LINE < line.len() {
         return None;
     }
     code_line(up_to(line, b';'), labels)

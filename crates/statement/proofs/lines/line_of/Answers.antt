@@ -14,7 +14,7 @@ returns-clause-line c =
     let a = addresses c.args.labels in
     let parsed_as : line_value (uncommented l) c.code_line.result ≡ evaluated_line a (code_line (uncommented l)) = rw c.up_to.ensures at c.code_line.ensures.line in
     let at : LabelInside (length (uncommented l)) c.code_line.result = rw c.up_to.ensures at c.code_line.ensures.label in
-    rw (le-ltb 120 _ c.if-line-gt120.false) (sym (seen-in-line l c.code_line.result at) ∙ parsed_as)
+    rw (le-ltb 120 _ c.if-line-gt-LONGEST_LINE.false) (sym (seen-in-line l c.code_line.result at) ∙ parsed_as)
 
 pub returns-clause-label : goal.returns-clause-label
 returns-clause-label c =
