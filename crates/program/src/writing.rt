@@ -1,6 +1,6 @@
 // The bytes of a program's words.
 ghost use Rattle.std.specs.Prelude.{◌≡◌, ◌*◌, ◌≤◌, ◌↔◌, length, IsErrOf, IsTrue};
-ghost use Rattle.little_endian.specs.Numbers.{bytes_of};
+ghost use Rattle.little_endian.specs.Numbers.{number_bytes, bytes_of};
 ghost use Rattle.text.specs.Buffer.{wrote, writes};
 ghost use Rattle.answer.specs.Refusal.{bad_program};
 ghost use Rattle.program.specs.Program.{count_of, saves};
@@ -11,6 +11,14 @@ use text::put_text;
 // The bytes of the longest program.
 pub const PROGRAM_BYTES: usize = 4 * PROGRAM_WORDS;
 
+// The bytes of a word, the lowest first.
+#[tactic(auto, using(little_endian::proofs::Numbers::four_bytes))]
+fn bytes_of(word: u32) -> [u8; 4]
+    ensures { result ≡ number_bytes 4 word }
+{
+    word.to_le_bytes()
+}
+
 // Puts the bytes of words one behind the other, from the start on.
 fn put_words(words: &[u32], out: &mut [u8]) -> usize
     requires { 4 * length words.now ≤ length out.old }
@@ -18,7 +26,7 @@ fn put_words(words: &[u32], out: &mut [u8]) -> usize
 {
     let mut at = 0;
     for word in words {
-        at = put_text(out, at, &word.to_le_bytes());
+        at = put_text(out, at, &bytes_of(*word));
     }
     at
 }

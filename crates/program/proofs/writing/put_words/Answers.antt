@@ -3,7 +3,7 @@ use Rattle.std.proofs.Common.{ℕ, ◌≡◌, List, length, get_or, sym, ap, ◌
 use Rattle.text.specs.Buffer.{wrote, writes, puts}
 use Rattle.text.proofs.Placing.{next, puts-at, writes-none, length-wrote}
 use Rattle.little_endian.specs.Numbers.{number_bytes, bytes_of}
-use Rattle.little_endian.proofs.Numbers.{four_bytes, bytes-length, bytes-of-length}
+use Rattle.little_endian.proofs.Numbers.{bytes-length, bytes-of-length}
 use Rattle.program.proofs.writing.put_words.Goals as goal
 
 pub loop-word-init : goal.loop-word-init
@@ -23,7 +23,7 @@ loop-word-preserved c =
     let m = bytes-of-length k ws in
     let at = length-wrote x.out.now 0 (bytes_of k ws) l.at l.out (omega arith) l.invariant in
     let e : wrote q.result q.new.out ≡ writes l.out l.at w =
-    q.ensures ∙ ap (λ (u : List ℕ). puts (wrote l.at l.out) u) (c.to_le_bytes.ensures ∙ sym (four_bytes (get_or ws k 0))) ∙ puts-at l.out l.at w (omega arith) in
+    q.ensures ∙ ap (λ (u : List ℕ). puts (wrote l.at l.out) u) c.bytes_of.ensures ∙ puts-at l.out l.at w (omega arith) in
     next x.out.now 0 (bytes_of k ws) (omega arith) w l.at l.out q.result q.new.out l.invariant e
     ∙ ap (λ n. writes x.out.now 0 (bytes_of n ws)) (sym (add-one k))
 
