@@ -12,5 +12,8 @@ mod jump;
 mod operand;
 mod operation;
 mod registers;
+mod total;
 
-pub use issuing::{Issued, issue};
+pub use issuing::{Issued, fits, issue};
+pub use operand::splat;
+pub use total::{advance, in_program, replace, scalar, set_scalar, set_vector, vector};

@@ -3,6 +3,8 @@
 
 mod field;
 mod prefix;
+mod total;
 
 pub use field::{long_signed, short_signed};
 pub use prefix::{PREFIX_C, PREFIX_I, PREFIX_J, PREFIX_M, PREFIX_MOVEI, PREFIX_R};
+pub use total::signed_number;
