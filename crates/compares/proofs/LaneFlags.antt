@@ -21,10 +21,14 @@ unfolding mask_below
 mask_below-lt zero f = omega arith
 mask_below-lt (suc n) f = omega (arith, mask_below-lt n f, at_most (f n) (2 ^ n), pow-suc 2 n)
 
-pub same-mask : (n : ℕ) (f g : ℕ → Bool) → ((j : ℕ) → f j ≡ g j) → mask_below n f ≡ mask_below n g
+pub same-below : (n : ℕ) (f g : ℕ → Bool) → ((j : ℕ) → j < n → f j ≡ g j) → mask_below n f ≡ mask_below n g
 unfolding mask_below
-same-mask zero f g h = refl
-same-mask (suc n) f g h = ap₂ (λ (m : ℕ) (t : Bool). m + cond t (2 ^ n) 0) (same-mask n f g h) (h n)
+same-below zero f g h = refl
+same-below (suc n) f g h =
+    ap₂ (λ (m : ℕ) (t : Bool). m + cond t (2 ^ n) 0) (same-below n f g (λ j l. h j (omega arith))) (h n (omega arith))
+
+pub same-mask : (n : ℕ) (f g : ℕ → Bool) → ((j : ℕ) → f j ≡ g j) → mask_below n f ≡ mask_below n g
+same-mask n f g h = same-below n f g (λ j l. h j)
 
 -- the lane's bit of an answer
 one_bit : (t : Bool) (j : ℕ) → j < 16 → bit_and (flags_of t) (1 * 2 ^ j % 2 ^ 32) ≡ cond t (2 ^ j) 0
