@@ -73,7 +73,7 @@ pub fn compare_i(regs: &[u32], t: usize, w: u32, op: CompareOp) -> Action
     Action::Write(u32::from(ordering::compare(op, x, y)))
 }
 
-// What a move of n makes of a register that held `old`, as `execution` has it: opened there, it would ask for half a word.
+// What a move of n makes of a register that held `old`, where n is in range.
 fn replace(op: MoveiOp, old: u32, n: u32) -> u32
     requires { HalfWord op n }
     ensures { result ≡ replaced op old n }

@@ -15,7 +15,7 @@ use isa::StoreOp;
 use machine::PROGRAM_COUNTER;
 
 // Whether the lengths and the thread are such as a run comes to, and whether a word of the program stands at an address: as `execution` has
-// them, for the reason that registers.rt gives.
+// them within it.
 fn fits(words: usize, regs: usize, thread: usize) -> bool
     ensures { result ≡ fits words regs thread }
 {

@@ -1,4 +1,4 @@
-// The registers of a thread, as `execution` has them too: opened there, each would ask where the registers stand, and no open function asks.
+// The registers of a thread for this crate, whose numbers are in range: `execution` opens its own for any numbers, and tests for a place.
 ghost use Rattle.std.specs.Prelude.{◌≡◌, ◌+◌, ◌<◌, true};
 ghost use Rattle.execution.specs.Registers.{scalar, vector, with_scalar, with_vector, with_program_counter, InRegisters};
 ghost use Rattle.vector.specs.Lanes.{splatted};
@@ -41,7 +41,7 @@ pub fn set_vector(regs: &mut [u32], t: usize, i: u32, v: [u32; 16])
     }
 }
 
-// A number as sixteen equal lanes.
+// A number as sixteen equal lanes, as `execution` has it.
 #[tactic(auto, unfolding(vector::specs::Lanes::splatted, vector::specs::Lanes::tab))]
 pub fn splat(x: u32) -> [u32; 16]
     ensures { result ≡ splatted x }

@@ -5,7 +5,7 @@ ghost use Rattle.isa.specs.Number.{number_movei, fits_movei};
 
 use crate::instruction::MoveiOp;
 
-// The number that a signed field of n stands for, as `word_layout` has it: opened there, it would ask for a HALF and an n.
+// The number that a signed field of n stands for, as `word_layout` has it within it: the form that it opens takes any HALF and n, and tests n.
 fn signed_number<const HALF: u32>(n: u32) -> u32
     requires { (1 ≤ HALF) × (HALF ≤ 0x40000000) × (n < 2 * HALF) }
     ensures { result ≡ signed HALF n }
