@@ -1,6 +1,9 @@
 // The interpreter's test program: runs the figures of the papers that are run, and prints what happened, a line a figure.
 #![tactic(auto)]
 
+#[cfg(test)]
+mod parts;
+
 use answer::{REGISTER_WORDS, Refusal};
 use interpreter::{Run, Stop};
 use thread_entry::Status;
