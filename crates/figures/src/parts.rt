@@ -114,7 +114,8 @@ fn equal_lanes(rt: HostRuntime) {
     );
 }
 
-// "signed immediate 11-3", whose sign bit weighs 256, and "signed byte offset 17-0"; a sign bit that weighs nothing, and one that weighs more than 2^31
+// "signed immediate 11-3", whose sign bit weighs 256, and "signed byte offset 17-0"; then a sign bit that weighs nothing, and one that
+// weighs more than 2^31.
 #[test]
 fn signed_fields(rt: HostRuntime) {
     assert_eq!(rt; word_layout::signed_number::<256>(255), 255);
